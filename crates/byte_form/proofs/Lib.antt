@@ -1,0 +1,5 @@
+pub mod Numbers
+pub mod Outcomes
+pub mod Agree
+pub mod Loops
+pub mod Chains

@@ -1,0 +1,4 @@
+pub mod Places
+pub mod Forms
+pub mod States
+pub mod Reading

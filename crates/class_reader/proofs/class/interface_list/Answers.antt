@@ -1,0 +1,19 @@
+use Rattle.std.proofs.Common.{[]}
+use Rattle.std.proofs.lemmas.Result.{err_from_is_err_and}
+use Rattle.byte_form.specs.States.{state}
+use Rattle.byte_form.specs.Reading.{list_at}
+use Rattle.byte_form.proofs.Loops.{goes_on, ends, is_done}
+use Rattle.class_form.specs.ClassReading.{read_interface}
+use Rattle.class_reader.proofs.class.interface_list.Goals as goal
+
+pub returns-in_err-next : goal.returns-in_err-next
+returns-in_err-next c =
+    let p = err_from_is_err_and c.from_residual.result c.from_residual.ensures.1 in
+    rw (p.1, p.2) (ends (λ _. read_interface c.args.pool.now) c.loop.items.items c.args.count c.loop.counter (state c.loop.cursor) (list_at (λ _. read_interface c.args.pool.now) c.args.count [] (state c.args.cursor.now)) c.in_err-next.field-0.0 c.loop-test.true c.in_err-next.ensures c.loop.invariant)
+
+pub loop-preserved : goal.loop-preserved
+loop-preserved c =
+    rw c.in_ok-push.ensures.items (goes_on (λ _. read_interface c.args.pool.now) c.loop.items.items c.args.count c.loop.counter (state c.loop.cursor) (list_at (λ _. read_interface c.args.pool.now) c.args.count [] (state c.args.cursor.now)) c.in_ok-next.next (state c.interface.new.cursor) c.loop-test.true c.in_ok-next.ensures c.loop.invariant)
+
+pub returns : goal.returns
+returns c = is_done (λ _. read_interface c.args.pool.now) c.loop.items.items c.args.count c.loop.counter (state c.loop.cursor) (list_at (λ _. read_interface c.args.pool.now) c.args.count [] (state c.args.cursor.now)) c.loop-test.false c.loop.invariant

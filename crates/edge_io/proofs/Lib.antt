@@ -1,0 +1,5 @@
+pub mod Pieces
+pub mod Places
+pub mod Slashes
+pub mod Entries
+pub mod PathTests

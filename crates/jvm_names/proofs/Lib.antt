@@ -1,0 +1,4 @@
+pub mod Decided
+pub mod InFront
+pub mod Arguments
+pub mod Made

@@ -1,0 +1,8 @@
+use Rattle.std.proofs.Common.{rules}
+use Rattle.class_form.specs.NameTests.{is_field_type}
+use Rattle.class_form.proofs.Descriptors.{is_field_type-Decides}
+use Rattle.jvm_names.proofs.Decided.{decided}
+use Rattle.jvm_names.proofs.kinds.is_field_type.Goals as goal
+
+pub returns-clause-exact : goal.returns-clause-exact
+returns-clause-exact c = decided _ (is_field_type c.args.bytes.now) (search rules) (is_field_type-Decides c.args.bytes.now)

@@ -1,0 +1,23 @@
+use Rattle.std.proofs.Common.{◌≡◌, ◌∷◌, ◌++◌, length, take, drop, ap, sym, subst, ◌∙◌, arith}
+use Rattle.class_form.specs.Names.{IsClassName}
+use Rattle.jvm_names.proofs.InFront.{name_ends}
+use Rattle.jvm_names.proofs.types.class_in_front.Goals as goal
+
+pub split_at-requires : goal.split_at-requires
+split_at-requires c =
+    let e = name_ends c.args.bytes.now c.requires.0 c.requires.1 c.requires.2 c.requires.3 in
+    omega (arith, e.within, c.name_len.ensures)
+
+pub split_at-requires-2 : goal.split_at-requires-2
+split_at-requires-2 c =
+    let e = name_ends c.args.bytes.now c.requires.0 c.requires.1 c.requires.2 c.requires.3 in
+    let back : c.split_at.result.1.now ≡ 59 ∷ c.requires.1 = c.split_at.ensures.back ∙ ap (λ m. drop m c.args.bytes.now) c.name_len.ensures ∙ e.back in
+    omega (arith, ap length back)
+
+pub returns : goal.returns
+returns c =
+    let e = name_ends c.args.bytes.now c.requires.0 c.requires.1 c.requires.2 c.requires.3 in
+    let front : c.in_ok-name.name ≡ c.requires.0 = c.in_ok-name.ensures ∙ c.split_at.ensures.front ∙ ap (λ m. take m c.args.bytes.now) c.name_len.ensures ∙ e.front in
+    let back : c.split_at.result.1.now ≡ 59 ∷ c.requires.1 = c.split_at.ensures.back ∙ ap (λ m. drop m c.args.bytes.now) c.name_len.ensures ∙ e.back in
+    let rest : c.split_at-2.result.1.now ≡ c.requires.1 = c.split_at-2.ensures.back ∙ ap (λ x. drop 1 x) back in
+    (subst IsClassName (sym front) c.requires.2, c.requires.3 ∙ ap (λ x. x ++ 59 ∷ c.requires.1) (sym front) ∙ ap (λ x. c.in_ok-name.name ++ 59 ∷ x) (sym rest))

@@ -1,0 +1,9 @@
+pub mod Splits
+pub mod Standing
+pub mod Naming
+pub mod Digits
+pub mod Counting
+pub mod Meaning
+pub mod Deciding
+pub mod Telling
+pub mod Printing

@@ -1,0 +1,6 @@
+use Rattle.std.proofs.Common.{ℕ, ◌<◌, slice_index}
+use Rattle.script.specs.Words.{IsBlank}
+use Rattle.script.proofs.words.word_len.Given as goal
+
+abbrev pub invariant-loop-i : goal.invariant-loop-i
+invariant-loop-i l = (k : ℕ) → k < l.i → IsBlank (slice_index l.line k) → ⊥

@@ -1,0 +1,13 @@
+//! The commands of a script: what each line asks for.
+#![tactic(auto)]
+
+pub mod command;
+mod escapes;
+mod keyword;
+pub mod laws;
+mod numbers;
+mod operands;
+pub mod parse;
+#[cfg(test)]
+mod tests;
+mod words;

@@ -1,0 +1,56 @@
+-- How a run ends, seen from its host.
+use Rattle.std.specs.Prelude.{◌≡◌, ◌⊎◌, ℕ, List, Option, Some, IfSome, Bool, true, false}
+use Rattle.edge_io.specs.Files.{Files, IsFolder}
+use Rattle.edge_io.specs.Reads.{appended}
+use Rattle.small_class.specs.declared.class.SmallClass.{SmallClass}
+use Rattle.straight_code.specs.declared.step.Step.{Step}
+use Rattle.slicer_service.specs.declared.output.Outcome.{Outcome}
+use Rattle.slicer_service.specs.declared.output.Outcome.TheVariants.{Done, Fault, NoMemory}
+use Rattle.slicer_service.specs.declared.output.Delivered.{Delivered}
+use Rattle.slicer_service.specs.Small.{AreReplies}
+use Rattle.slicer_service.specs.Outputs.{HasOutput}
+use Rattle.slicer_service.specs.Runs.{IsAsked, RunOf, output_of}
+use Rattle.slicer_service.specs.Texts.{done_line, read_fault_line, write_fault_line, no_memory_line}
+
+-- the run over told files answers, says and leaves what its definition gives
+abbrev pub RunsAs : Option Files → Option Files → Option (List ℕ) → Option (List ℕ) → List ℕ → List ℕ → ℕ → Type 0
+RunsAs files files_after said said_after folder script status =
+    IfSome files (λ m. (text : List ℕ) × (after : Files) × RunOf m folder script status text after × (files_after ≡ Some after) × (said_after ≡ appended text said))
+
+-- these are the replies to what the script asks for
+pub record IsAnswered (m : Files) (folder script : List ℕ) (replies : List (List ℕ)) : Type 0 where
+  pub class : SmallClass
+  pub steps : List Step
+  pub seed : ℕ
+  pub asked : IsAsked m folder script class steps seed
+  pub answers : AreReplies class steps seed replies
+
+-- the script was served, and its output has what was written of the replies, as the outcome says
+pub record Delivers (m : Files) (folder script : List ℕ) (d : Delivered) (after : Files) : Type 0 where
+  pub replies : List (List ℕ)
+  pub answered : IsAnswered m folder script replies
+  pub output : HasOutput m (output_of script) replies d after
+
+-- the line on a session that ended so
+abbrev pub summary_line : Outcome → List ℕ
+summary_line Done = done_line 2
+summary_line (Fault n) = write_fault_line n
+summary_line (NoMemory n) = no_memory_line n
+
+-- the files are as they were, but that the output may have some of the replies
+abbrev pub KeepsFiles : Option Files → Option Files → List ℕ → List ℕ → Type 0
+KeepsFiles files files_after folder script =
+    IfSome files (λ m. (after : Files) × (files_after ≡ Some after) × ((after ≡ m) ⊎ ((d : Delivered) × Delivers m folder script d after)))
+
+-- the script's source failed, and was not steady: nothing was made
+pub record ReadFaultEnds (files files_after : Option Files) (said said_after : Option (List ℕ)) (steady : Bool) : Type 0 where
+  pub unsteady : steady ≡ true → ⊥
+  pub kept : files_after ≡ files
+  pub line : said_after ≡ appended (read_fault_line 0) said
+
+-- the output's sink failed, and was not steady: the closed output has the first bytes of the replies, so many of them whole
+pub record WriteFaultEnds (files files_after : Option Files) (said said_after : Option (List ℕ)) (folder script : List ℕ) (steady : Bool) : Type 0 where
+  pub whole : ℕ
+  pub unsteady : steady ≡ true → ⊥
+  pub line : said_after ≡ appended (write_fault_line whole) said
+  pub made : IfSome files (λ m. (after : Files) × (files_after ≡ Some after) × Delivers m folder script (record { outcome = Fault whole; closed = true }) after)

@@ -1,0 +1,12 @@
+//! Class files of the small form: one method `main` with straight code, and nothing beside it.
+#![tactic(auto)]
+
+pub mod class;
+mod cursor;
+mod items;
+mod parts;
+pub mod reading;
+mod rules;
+#[cfg(test)]
+mod tests;
+mod unread;

@@ -1,0 +1,5 @@
+pub mod Instructions
+pub mod Straight
+pub mod Slices
+pub mod Slots
+pub mod Wanted

@@ -1,0 +1,5 @@
+pub mod Growing
+pub mod Marking
+pub mod Closing
+pub mod Orders
+pub mod Slices
