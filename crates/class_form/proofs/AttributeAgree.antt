@@ -1,26 +1,20 @@
 -- Attributes are found as they are spelled.
-use Rattle.std.proofs.Common.{◌≡◌, ◌⊎◌, inl, inr, ℕ, zero, suc, ◌+◌, ◌^◌, ◌<◌, ◌≤◌, Bool, true, false, eqb, List, [], ◌∷◌, ◌++◌, length, Ok, Err, refl, sym, ap, subst, ◌∙◌, append_assoc, length-append, arith}
-use Rattle.std.specs.Prelude.{All, AllPairs, Any, codes}
-use Rattle.std.specs.List.{flat_map, AllByRecursion}
-use Rattle.std.specs.Bool.{Decides}
+use Rattle.std.proofs.Common.{◌≡◌, ◌⊎◌, inl, inr, ℕ, ◌^◌, ◌<◌, List, [], ◌++◌, length, refl, sym, ap, subst, ◌∙◌}
+use Rattle.std.specs.Prelude.{codes}
 use Rattle.std.proofs.lemmas.List.{append-nil}
 use Rattle.byteorder.specs.Endian.{big_bytes}
-use Rattle.byte_form.specs.Places.{State, Takes}
-use Rattle.byte_form.specs.Forms.{Fault, Broken, Form, number, bytes, made, here, followed, rule, either, inside, list}
+use Rattle.byte_form.specs.Forms.{Broken, either}
 use Rattle.byte_form.proofs.Agree as agree
 use Rattle.byte_form.proofs.Agree.{Agrees, Chain, number_agree, bytes_agree, field, field_given, done, reknown, knowing, absorbed, anywhere, ruled, chosen, restated, list_agree, inside_agree, counted_agree, kept_agree}
-use Rattle.byte_form.proofs.Chains.{plain_chain, plain_all, chain_all, chain_pairs, all_chain}
-use Rattle.class_form.specs.Spelling.{spell_counted, spell_boxed, spell_line, spell_handler, spell_code_content, spell_code_attribute, spell_code, spell_content, spell_attribute}
-use Rattle.class_form.specs.PoolRules.{IsUtf, IsClassIndex}
-use Rattle.class_form.specs.ClassRules.{IsNamed, IsCode, IsCodeLength, IsHandler, IsLine, IsCodeContent, IsCodeAttribute, IsSizedHandler, IsBody, IsContent, IsMethodAttribute, IsPlainAttribute}
-use Rattle.class_form.specs.FirstFaults.{counted, kept, plain_attribute, line, lines, other_code_content, code_attribute, handler, body, code, other_content, method_attribute}
-use Rattle.class_form.specs.ClassReading.{is_named}
-use Rattle.class_form.proofs.ClassTests.{is_named-Decides}
+use Rattle.byte_form.proofs.Chains.{plain_chain, plain_all}
+use Rattle.class_form.specs.Spelling.{spell_counted, spell_boxed, spell_line, spell_handler, spell_code_content, spell_code_attribute, spell_content, spell_attribute}
+use Rattle.class_form.specs.PoolRules.{IsUtf}
+use Rattle.class_form.specs.ClassRules.{IsNamed, IsCode, IsHandler, IsLine, IsCodeContent, IsCodeAttribute, IsSizedHandler, IsPlainAttribute}
+use Rattle.class_form.specs.FirstFaults.{kept, plain_attribute, line, lines, other_code_content, code_attribute, handler, body}
 use Rattle.class_form.specs.declared.pool.Pool.{Pool}
 use Rattle.class_form.specs.declared.class_file.Attribute.{Attribute}
 use Rattle.class_form.specs.declared.class_file.Content.{Content}
 use Rattle.class_form.specs.declared.class_file.Content.TheVariants as contents
-use Rattle.class_form.specs.declared.class_file.CodeBody.{CodeBody}
 use Rattle.class_form.specs.declared.class_file.CodeAttribute.{CodeAttribute}
 use Rattle.class_form.specs.declared.class_file.CodeContent.{CodeContent}
 use Rattle.class_form.specs.declared.class_file.CodeContent.TheVariants as code_contents

@@ -1,8 +1,7 @@
 -- What is read of a class file is spelled so, and what is spelled so is read; a fault that is read is the first one.
-use Rattle.std.proofs.Common.{◌≡◌, ◌⊎◌, inl, inr, ℕ, List, Result, Ok, Err, refl, sym, ap, subst, ◌∙◌}
+use Rattle.std.proofs.Common.{◌≡◌, ◌⊎◌, inl, inr, ℕ, List, Ok, Err, refl, sym, ap, subst, ◌∙◌}
 use Rattle.byte_form.specs.Places.{State, IsBytes, start}
 use Rattle.byte_form.specs.Forms.{Outcome}
-use Rattle.byte_form.proofs.Outcomes.{Is}
 use Rattle.class_form.specs.ClassRules.{Spells}
 use Rattle.class_form.specs.FirstFaults.{ClassFault, file, IsFirstFault}
 use Rattle.class_form.specs.ClassReading.{read_file}

@@ -1,20 +1,19 @@
 -- The outcome of a class file is the one that is computed.
-use Rattle.std.proofs.Common.{◌≡◌, ℕ, suc, ◌+◌, ◌-◌, ◌<◌, ◌≤◌, Bool, true, false, eqb, leb, ltb, List, [], ◌∷◌, ◌++◌, length, Result, Ok, Err, refl, sym, ap, subst, ◌∙◌, arith}
+use Rattle.std.proofs.Common.{◌≡◌, ℕ, eqb, List, [], ◌∷◌, length, Ok, Err, refl, ap, subst, arith}
 use Rattle.std.specs.Prelude.{codes}
 use Rattle.std.specs.Bool.{Decides}
 use Rattle.std.proofs.lemmas.Bool.Decides.{Decides-eqb, Decides-ltb, Decides-not}
 use Rattle.std.proofs.lemmas.Bool.{eqb-true}
 use Rattle.byte_form.specs.Places.{State, IsBytes}
-use Rattle.byte_form.specs.Forms.{Fault, Outcome, Form, Broken, number, bytes, rule, made, followed, list, inside}
-use Rattle.byte_form.specs.Reading.{◌>>=◌, check, number_at, bytes_at, list_at, inside_at}
-use Rattle.byte_form.proofs.Outcomes.{Is, IsRest, number_is, bytes_is, bytes_of, here_is, made_is, rule_is, either_is, followed_is, list_is, inside_is}
+use Rattle.byte_form.specs.Forms.{Fault, Outcome, Form, Broken, bytes, made, followed}
+use Rattle.byte_form.specs.Reading.{◌>>=◌, check, number_at, bytes_at, inside_at}
+use Rattle.byte_form.proofs.Outcomes.{Is, number_is, bytes_is, bytes_of, here_is, made_is, rule_is, either_is, followed_is, list_is, inside_is}
 use Rattle.class_form.specs.FirstFaults.{ClassFault, NotClass, Version, Item, Trailing, counted, kept, plain_attribute, line, lines, other_code_content, code_attribute, handler, body, code, other_content, method_attribute, field, method, interface, class, items, ended, class_file, file}
 use Rattle.class_form.specs.PoolReading.{read_pool}
 use Rattle.class_form.specs.ClassReading.{read_counted, read_kept, read_plain_attribute, read_line, read_lines, read_other_code_content, read_code_content, read_code_attribute, read_handler, read_body, read_code, read_other_content, read_content, read_method_attribute, read_field, read_method, read_interface, read_class, read_item, read_class_file, read_file}
 use Rattle.class_form.proofs.PoolOutcome.{pool_is}
 use Rattle.class_form.proofs.ClassTests.{is_named-Decides, is_plain_class-Decides, is_superclass-Decides, are_field_texts-Decides, are_method_texts-Decides, is_new-Decides, has_slots-Decides, is_of_kind-Decides, any_code-Decides, has_code_where_needed-Decides, has_locals_for_all-Decides, is_code_length-Decides, is_handler-Decides, is_version-Decides, is_utf-Decides}
 use Rattle.class_form.specs.declared.pool.Pool.{Pool}
-use Rattle.class_form.specs.declared.class_file.ClassFile.{ClassFile}
 use Rattle.class_form.specs.declared.class_file.Member.{Member}
 use Rattle.class_form.specs.declared.class_file.Attribute.{Attribute}
 use Rattle.class_form.specs.declared.class_file.Content.TheVariants as contents

@@ -1,21 +1,21 @@
 -- The tests of the rules behind the pool decide them.
-use Rattle.std.proofs.Common.{◌≡◌, ◌⊎◌, inl, inr, ℕ, zero, suc, ◌+◌, ◌<◌, ◌≤◌, ◌^◌, Bool, true, false, cond, eqb, leb, ltb, List, [], ◌∷◌, ◌++◌, length, get_or, Option, Some, None, refl, sym, ap, subst, ◌∙◌, arith}
-use Rattle.std.specs.Prelude.{not, ◌&&◌, ◌||◌, ◌↔◌, bit_and, option_map, option_and_then, All, Any, codes}
+use Rattle.std.proofs.Common.{◌≡◌, ◌⊎◌, inl, inr, ℕ, zero, suc, ◌+◌, ◌<◌, ◌≤◌, ◌^◌, Bool, true, false, cond, leb, List, [], ◌∷◌, length, get_or, Option, Some, None, refl, sym, ap, subst, ◌∙◌, arith}
+use Rattle.std.specs.Prelude.{not, ◌||◌, ◌↔◌, bit_and, option_map, option_and_then, All, Any, codes}
 use Rattle.std.specs.Option.{option_map_or}
-use Rattle.std.specs.List.{list_all, list_any, AllByRecursion}
+use Rattle.std.specs.List.{list_all, list_any}
 use Rattle.std.specs.Str.{bytes_eq}
 use Rattle.std.specs.Bool.{Decides}
-use Rattle.std.proofs.lemmas.Bool.Decides.{Decides-eqb, Decides-ltb, Decides-and, Decides-or, Decides-not, Decides-like, Decides-by_and, Decides-by_or, not_from_Decides}
+use Rattle.std.proofs.lemmas.Bool.Decides.{Decides-eqb, Decides-ltb, Decides-and, Decides-or, Decides-not, Decides-like, Decides-by_and, not_from_Decides}
 use Rattle.std.proofs.lemmas.Slice.Eq.{bytes_eq-Decides}
 use Rattle.class_form.specs.NameTests.{is_unqualified_name, is_method_name, is_field_type, is_method_type, parameter_slots}
 use Rattle.class_form.specs.Names.{IsUnqualifiedName, IsMethodName}
-use Rattle.class_form.specs.Types.{IsMethodType, slots}
+use Rattle.class_form.specs.Types.{slots}
 use Rattle.class_form.specs.Pools.{constant_at, utf_at, class_at}
-use Rattle.class_form.specs.PoolRules.{IsUtf, IsClassIndex, IsField, IsMethod}
-use Rattle.class_form.specs.PoolReading.{text_is, is_utf, is_class}
-use Rattle.class_form.specs.Classes.{IsStatic, IsNative, IsAbstract, IsInterface}
+use Rattle.class_form.specs.PoolRules.{IsUtf, IsField, IsMethod}
+use Rattle.class_form.specs.PoolReading.{is_utf}
+use Rattle.class_form.specs.Classes.{IsStatic}
 use Rattle.class_form.specs.ClassRules.{IsNamed, NamesArray, IsPlainClass, IsSuperclass, AreFieldTexts, AreMethodTexts, HasTextsOf, IsCode, IsInitializer, NeedsCode, HasCodeWhereNeeded, IsCodeLength, IsHandler, TakesSlots, HasSlots, HasLocals, HasLocalsForAll, IsOfKind, IsVersion}
-use Rattle.class_form.specs.ClassReading.{is_set, is_named, names_array, is_plain_class, is_class_named, is_superclass, are_field_texts, is_initializer, are_method_texts, same_text, has_texts_of, is_new, slots_at, has_slots, is_of_kind, needs_code, is_code, has_code_where_needed, has_locals, has_locals_for_all, is_code_length, is_handler, is_version}
+use Rattle.class_form.specs.ClassReading.{is_set, is_named, names_array, is_plain_class, is_superclass, are_field_texts, is_initializer, are_method_texts, same_text, has_texts_of, is_new, slots_at, has_slots, is_of_kind, needs_code, is_code, has_code_where_needed, has_locals, has_locals_for_all, is_code_length, is_handler, is_version}
 use Rattle.class_form.proofs.PlainNames.{is_unqualified_name-Decides, is_method_name-Decides}
 use Rattle.class_form.proofs.Descriptors.{is_field_type-Decides, is_method_type-Decides, parameter_slots-is, parameter_slots-found}
 use Rattle.class_form.proofs.PoolTests.{Decides-leb, text_is-Decides, utf, class}

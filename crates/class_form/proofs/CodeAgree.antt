@@ -1,10 +1,9 @@
 -- Code, and the attributes of methods, are found as they are spelled.
-use Rattle.std.proofs.Common.{◌≡◌, ◌⊎◌, inl, inr, ℕ, zero, suc, ◌+◌, ◌^◌, ◌<◌, ◌≤◌, Bool, true, false, eqb, List, [], ◌∷◌, ◌++◌, length, Ok, Err, refl, sym, ap, subst, ◌∙◌, append_assoc, length-append, arith}
-use Rattle.std.specs.Prelude.{All, AllPairs, Any, codes}
-use Rattle.std.specs.List.{flat_map}
+use Rattle.std.proofs.Common.{◌≡◌, ◌⊎◌, inl, inr, ℕ, ◌^◌, ◌<◌, List, [], ◌++◌, length, refl, sym, ap, subst, ◌∙◌, append_assoc, arith}
+use Rattle.std.specs.Prelude.{Any, codes}
 use Rattle.std.proofs.lemmas.List.{append-nil}
 use Rattle.byteorder.specs.Endian.{big_bytes}
-use Rattle.byte_form.specs.Forms.{Fault, Broken, Form, number, bytes, made, here, followed, rule, either, inside, list}
+use Rattle.byte_form.specs.Forms.{Broken, made, followed, either}
 use Rattle.byte_form.proofs.Agree as agree
 use Rattle.byte_form.proofs.Agree.{Agrees, Chain, number_agree, bytes_agree, field, field_given, done, absorbed, anywhere, ruled, chosen, restated, inside_agree, counted_agree}
 use Rattle.byte_form.proofs.Chains.{plain_chain, plain_all}

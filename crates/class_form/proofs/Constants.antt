@@ -1,23 +1,22 @@
 -- What stands behind a tag, and the constant that it makes.
-use Rattle.std.proofs.Common.{◌≡◌, ◌⊎◌, inl, inr, ℕ, zero, suc, ◌+◌, ◌-◌, ◌<◌, ◌≤◌, ◌^◌, Bool, true, false, cond, eqb, leb, ltb, List, [], ◌∷◌, ◌++◌, length, Option, Some, None, Result, Ok, Err, refl, sym, ap, subst, ◌∙◌, length-append, arith}
-use Rattle.std.specs.Prelude.{not, ◌&&◌, ◌||◌}
+use Rattle.std.proofs.Common.{◌≡◌, inl, inr, ℕ, ◌+◌, ◌<◌, ◌≤◌, ◌^◌, Bool, true, false, cond, eqb, List, [], ◌++◌, length, Ok, Err, refl, sym, ap, subst, ◌∙◌, length-append, arith}
 use Rattle.std.proofs.lemmas.Bool.{eqb-true}
 use Rattle.std.proofs.lemmas.List.{append-nil}
 use Rattle.std.proofs.lemmas.Bool.Decides.{Decides-eqb, not_from_Decides}
 use Rattle.byteorder.specs.Endian.{big_bytes}
 use Rattle.byte_form.specs.Places.{State, Takes, IsBytes}
-use Rattle.byte_form.specs.Forms.{Fault, Truncated, Broken, Outcome, Form, number, bytes, here, rule, made, followed, list, either, ◌>>=◌}
+use Rattle.byte_form.specs.Forms.{Fault, Truncated, Outcome, Form, number, made, followed}
 use Rattle.byte_form.specs.Reading as reading
 use Rattle.byte_form.specs.Reading.{number_at}
 use Rattle.byte_form.proofs.Numbers.{length-big_bytes}
-use Rattle.byte_form.proofs.Outcomes.{Is, IsRest, number_is, bytes_is, here_is, made_is, rule_is, either_is, followed_is, list_is, Takes-then, same_state}
+use Rattle.byte_form.proofs.Outcomes.{Is, number_is, made_is, followed_is}
 use Rattle.byte_form.proofs.Agree.{Agrees, Any, number_agree, field, done}
-use Rattle.class_form.specs.Spelling.{tag_of, spell_info, spell_constant}
+use Rattle.class_form.specs.Spelling.{tag_of, spell_info}
 use Rattle.class_form.specs.PoolRules.{IsTag, IsInfo}
 use Rattle.class_form.specs.PoolFaults.{info, info_size}
 use Rattle.class_form.specs.PoolReading.{one_number, two_numbers, read_info}
 use Rattle.class_form.specs.declared.pool.Constant.{Constant}
-use Rattle.class_form.specs.declared.pool.Constant.TheVariants.{Utf8, Integer, Float, Long, Double, Class, Text, Field, Method, InterfaceMethod, NameAndType, Handle, MethodType, Dynamic, Second}
+use Rattle.class_form.specs.declared.pool.Constant.TheVariants.{Integer, Float, Long, Double, Class, Text, Field, Method, InterfaceMethod, NameAndType, Handle, MethodType, Dynamic}
 
 -- one number makes the constants of a tag
 record IsOne (tag n : ℕ) (C : ℕ → Constant) : Type 0 where

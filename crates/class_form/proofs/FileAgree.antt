@@ -1,22 +1,19 @@
 -- Members and class files are found as they are spelled.
-use Rattle.std.proofs.Common.{◌≡◌, ◌⊎◌, inl, inr, ℕ, zero, suc, ◌+◌, ◌^◌, ◌<◌, ◌≤◌, Bool, true, false, List, [], ◌∷◌, ◌++◌, length, get_or, Ok, Err, refl, sym, ap, subst, ◌∙◌, append_assoc, length-append, arith}
-use Rattle.std.specs.Prelude.{All, AllPairs, Any, codes}
-use Rattle.std.specs.List.{flat_map}
+use Rattle.std.proofs.Common.{◌≡◌, inl, inr, ℕ, zero, suc, ◌^◌, ◌<◌, List, [], ◌∷◌, ◌++◌, length, get_or, Ok, refl, sym, ap, subst, ◌∙◌, append_assoc, arith}
+use Rattle.std.specs.Prelude.{All, AllPairs}
 use Rattle.std.proofs.lemmas.List.{append-nil}
 use Rattle.byteorder.specs.Endian.{big_bytes}
-use Rattle.byte_form.specs.Places.{State, Takes, IsBytes, start}
-use Rattle.byte_form.specs.Forms.{Fault, Broken, Form, number, bytes, made, here, followed, rule, list}
+use Rattle.byte_form.specs.Places.{State, Takes, start}
+use Rattle.byte_form.specs.Forms.{Fault, Broken, Form, bytes, made, followed, rule}
 use Rattle.byte_form.proofs.Agree as agree
 use Rattle.byte_form.proofs.Agree.{Agrees, Chain, number_agree, field, field_given, done, absorbed, reknown, anywhere, ruled, restated, counted_agree}
 use Rattle.byte_form.proofs.Chains.{plain_chain, plain_all, chain_all, chain_pairs, all_chain}
-use Rattle.class_form.specs.Pools.{utf_at}
 use Rattle.class_form.specs.Spelling.{spell_pool, spell_counted, spell_attribute, spell_member, spell_class, spelling}
 use Rattle.class_form.specs.PoolRules.{IsPool}
 use Rattle.class_form.specs.ClassRules.{IsPlainClass, IsSuperclass, AreFieldTexts, AreMethodTexts, HasTextsOf, AreDistinct, IsCode, HasCodeWhereNeeded, HasSlots, HasLocalsForAll, IsOfKind, IsMethodAttribute, IsPlainAttribute, IsFieldMember, IsMethodMember, IsInterfaceIndex, IsVersion, IsClassFile, Spells}
-use Rattle.class_form.specs.PoolFaults.{pool}
-use Rattle.class_form.specs.FirstFaults.{counted, plain_attribute, method_attribute, field as field_form, method, interface, class, ClassFault, NotClass, Version, Item, Trailing, items, ended, class_file, file}
+use Rattle.class_form.specs.FirstFaults.{counted, plain_attribute, field as field_form, method, interface, class, NotClass, Version, items, ended, class_file, file}
 use Rattle.class_form.proofs.PoolAgree.{pool_agree}
-use Rattle.class_form.proofs.AttributeAgree.{Free, plain_attribute_agree}
+use Rattle.class_form.proofs.AttributeAgree.{plain_attribute_agree}
 use Rattle.class_form.proofs.CodeAgree.{IsNextAttribute, method_attribute_agree}
 use Rattle.class_form.specs.declared.pool.Pool.{Pool}
 use Rattle.class_form.specs.declared.class_file.ClassFile.{ClassFile}

@@ -8,6 +8,9 @@ pub mod Descriptors
 pub mod LongestBegin
 pub mod OneType
 pub mod CodeLaws
+pub mod Indices
+pub mod InstrOrder
+pub mod ShapeLaws
 pub mod PoolTests
 pub mod Constants
 pub mod PoolOutcome
@@ -19,3 +22,6 @@ pub mod AttributeAgree
 pub mod CodeAgree
 pub mod FileAgree
 pub mod ClassLaws
+pub mod TableWidths
+pub mod Follow
+pub mod Flows

@@ -1,5 +1,5 @@
 -- A constant pool is found as it is spelled.
-use Rattle.std.proofs.Common.{◌≡◌, ◌⊎◌, inl, inr, ℕ, zero, suc, ◌+◌, ◌-◌, ◌^◌, ◌<◌, ◌≤◌, Bool, true, false, List, [], ◌∷◌, ◌++◌, length, Ok, Err, refl, sym, ap, subst, ◌∙◌, append_assoc, length-append, arith}
+use Rattle.std.proofs.Common.{◌≡◌, ◌⊎◌, inl, inr, ℕ, suc, ◌+◌, ◌-◌, ◌^◌, ◌<◌, Bool, true, false, List, [], ◌∷◌, ◌++◌, length, refl, sym, ap, subst, ◌∙◌, length-append, arith}
 use Rattle.std.proofs.Common.{eqb}
 use Rattle.std.specs.Bool.{Decides}
 use Rattle.std.proofs.lemmas.Bool.Decides.{Decides-eqb}
@@ -8,8 +8,8 @@ use Rattle.class_form.proofs.PoolTests.{ends_wide-Decides, ends_wide-push, is_wi
 use Rattle.std.specs.List.{flat_map, AllByRecursion}
 use Rattle.std.proofs.lemmas.List.{append-nil}
 use Rattle.byteorder.specs.Endian.{big_bytes}
-use Rattle.byte_form.specs.Places.{State, Takes}
-use Rattle.byte_form.specs.Forms.{Fault, Broken, Form, made, here, followed, rule, either}
+use Rattle.byte_form.specs.Places.{State}
+use Rattle.byte_form.specs.Forms.{Fault, Broken, made, followed, either}
 use Rattle.byte_form.proofs.Outcomes.{same_state}
 use Rattle.byte_form.proofs.Agree.{Agrees, Any, Chain, number_agree, bytes_agree, field, field_given, done, reknown, anywhere, ruled, chosen, restated, list_agree}
 use Rattle.class_form.specs.Spelling.{tag_of, spell_info, spell_constant, spell_pool}
@@ -18,7 +18,7 @@ use Rattle.class_form.specs.PoolRules.{IsTag, IsOfVersion, IsInfo, IsWide, IsSec
 use Rattle.class_form.specs.PoolFaults.{info, text, constant, index, links, pool, EndsWide}
 use Rattle.class_form.specs.declared.pool.Pool.{Pool}
 use Rattle.class_form.specs.declared.pool.Constant.{Constant}
-use Rattle.class_form.specs.declared.pool.Constant.TheVariants.{Utf8, Integer, Float, Long, Double, Class, Text, Field, Method, InterfaceMethod, NameAndType, Handle, MethodType, Dynamic, Second}
+use Rattle.class_form.specs.declared.pool.Constant.TheVariants.{Utf8, Long, Double, Handle, MethodType, Dynamic, Second}
 
 -- ---- a constant
 

@@ -1,12 +1,12 @@
 -- What is read of a constant pool is spelled so, and what is spelled so is read; a fault that is read is the first one.
-use Rattle.std.proofs.Common.{◌≡◌, ℕ, ◌+◌, List, [], ◌++◌, length, Result, Ok, Err, refl, sym, ap, subst, ◌∙◌, arith}
+use Rattle.std.proofs.Common.{◌≡◌, ℕ, ◌+◌, List, [], length, Result, Ok, Err, refl, sym, subst, arith}
 use Rattle.std.specs.List.{flat_map}
 use Rattle.byte_form.specs.Places.{State, Takes, IsBytes, start}
 use Rattle.byte_form.specs.Forms.{Fault, Outcome, list}
-use Rattle.byte_form.specs.Reading.{Answers, IfFault, Fails, list_at}
+use Rattle.byte_form.specs.Reading.{IfFault, Fails, list_at}
 use Rattle.byte_form.specs.declared.error.ItemError.{ItemError}
 use Rattle.byte_form.specs.declared.error.ItemError.TheVariants as errors
-use Rattle.byte_form.proofs.Outcomes.{Is, list_is}
+use Rattle.byte_form.proofs.Outcomes.{list_is}
 use Rattle.byte_form.proofs.Agree.{list_agree}
 use Rattle.class_form.specs.Spelling.{spell_constant, spell_pool}
 use Rattle.class_form.specs.PoolRules.{IsPool}

@@ -1,13 +1,12 @@
 -- The outcome of a constant pool is the one that is computed.
-use Rattle.std.proofs.Common.{◌≡◌, ◌⊎◌, inl, inr, ℕ, zero, suc, ◌+◌, ◌-◌, ◌<◌, ◌≤◌, Bool, true, false, cond, eqb, leb, ltb, List, [], ◌∷◌, ◌++◌, length, Ok, Err, refl}
+use Rattle.std.proofs.Common.{ℕ, suc, ◌+◌, ◌-◌, List, [], ◌∷◌, length}
 use Rattle.std.proofs.lemmas.Bool.Decides.{Decides-eqb, Decides-ltb, not_from_Decides}
 use Rattle.byte_form.specs.Places.{State, IsBytes}
-use Rattle.byte_form.specs.Forms.{Fault, Outcome, Form}
 use Rattle.byte_form.specs.Reading.{number_at, bytes_at, list_at}
 use Rattle.byte_form.proofs.Outcomes.{Is, number_is, bytes_is, here_is, made_is, rule_is, either_is, followed_is, list_is}
 use Rattle.class_form.specs.Spelling.{spell_constant}
-use Rattle.class_form.specs.PoolFaults.{info, text, constant, index, links, pool}
-use Rattle.class_form.specs.PoolReading.{is_tag, ends_wide, read_info, read_text, read_constant, read_index, read_links, read_pool}
+use Rattle.class_form.specs.PoolFaults.{text, constant, index, links, pool}
+use Rattle.class_form.specs.PoolReading.{read_text, read_constant, read_index, read_links, read_pool}
 use Rattle.class_form.proofs.Characters.{is_modified_utf8-Decides}
 use Rattle.class_form.proofs.PoolTests.{is_tag-Decides, wide_tag-Decides, ends_wide-Decides, has_kinds-Decides, has_texts-Decides}
 use Rattle.class_form.proofs.Constants.{info_is}

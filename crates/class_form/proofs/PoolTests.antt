@@ -1,16 +1,15 @@
 -- The tests of the rules on constants decide them.
-use Rattle.std.proofs.Common.{◌≡◌, ◌⊎◌, inl, inr, ℕ, zero, suc, ◌<◌, ◌≤◌, Bool, true, false, eqb, leb, ltb, List, [], ◌∷◌, ◌++◌, Option, Some, None, refl, sym, ap, subst, ◌∙◌, arith}
+use Rattle.std.proofs.Common.{◌≡◌, ◌⊎◌, inl, inr, ℕ, ◌<◌, ◌≤◌, Bool, true, false, leb, ltb, List, [], ◌∷◌, ◌++◌, Option, Some, None, refl, sym, ap, subst, ◌∙◌, arith}
 use Rattle.std.specs.Prelude.{not, ◌&&◌, ◌||◌, option_and_then}
 use Rattle.std.specs.Option.{option_map_or}
 use Rattle.std.specs.Bool.{Decides}
 use Rattle.std.proofs.lemmas.Bool.Decides.{Decides-eqb, Decides-ltb, Decides-and, Decides-or, Decides-like, nat_tests}
-use Rattle.class_form.specs.NameTests.{is_modified_utf8, is_unqualified_name, is_method_name, is_class_name, is_field_type, is_array_type, is_method_type}
+use Rattle.class_form.specs.NameTests.{is_unqualified_name, is_method_name, is_field_type, is_method_type}
 use Rattle.class_form.specs.Names.{IsUnqualifiedName, IsMethodName, IsClassName}
-use Rattle.class_form.specs.Pools.{constant_at, utf_at, text_of, name_and_type_of}
-use Rattle.class_form.specs.PoolRules.{IsTag, IsWide, IsUtf, IsClassIndex, IsNameAndType, IsReference, HasKinds, IsField, IsArray, IsMethod, name_and_type_at, IsFieldAt, IsMethodAt, HasTexts}
+use Rattle.class_form.specs.Pools.{constant_at, utf_at, name_and_type_of}
+use Rattle.class_form.specs.PoolRules.{IsTag, IsWide, IsReference, HasKinds, IsField, IsArray, IsMethod, HasTexts}
 use Rattle.class_form.specs.PoolFaults.{EndsWide}
-use Rattle.class_form.specs.PoolReading.{is_tag, is_wide_tag, is_wide, ends_wide, is_utf, is_class, is_name_and_type, is_field, is_method, is_interface_method, is_reference, has_kinds, text_is, is_text, is_class_text, names_field, names_method, has_texts}
-use Rattle.class_form.proofs.Characters.{is_modified_utf8-Decides}
+use Rattle.class_form.specs.PoolReading.{is_tag, is_wide_tag, is_wide, ends_wide, is_utf, is_class, is_name_and_type, is_field, is_method, is_interface_method, is_reference, has_kinds, text_is, is_class_text, names_field, names_method, has_texts}
 use Rattle.class_form.proofs.PlainNames.{is_unqualified_name-Decides, is_method_name-Decides}
 use Rattle.class_form.proofs.ClassNames.{is_class_name-Decides}
 use Rattle.class_form.proofs.Descriptors.{is_field_type-Decides, is_array_type-Decides, is_method_type-Decides}
@@ -94,9 +93,6 @@ text_is-Decides test P d p i = by (utf_at p i)
     by None = (λ e. absurd cc, λ h. absurd (let e = h.1 in cc))
     by (Some t) = (λ e. (t, refl, (d t).0 e), λ h. (d t).1 (subst P (sym (some_is t h.0 h.1)) h.2))
 
-is_text-Decides : (text : List ℕ) → Decides (is_text text) (Unit {0})
-is_text-Decides text = (λ _. tt, λ _. refl)
-
 is_class_text-Decides : (text : List ℕ) → Decides (is_class_text text) (IsClassName text ⊎ IsArray text)
 is_class_text-Decides text = Decides-or _ _ (is_class_name-Decides text) (is_array_type-Decides text)
 
@@ -127,13 +123,11 @@ names_method-Decides p (Some (NameAndType n d)) = names_by is_method_name is_met
 names_method-Decides p (Some c) = (λ e. absurd cc, λ h. absurd (let e = h.2 in cc))
 names_method-Decides p None = (λ e. absurd cc, λ h. absurd (let e = h.2 in cc))
 
-names_field-by : (p : Pool) (o : Option Constant) → Decides (names_field p o) (NamesBy (λ _. Unit {0}) IsField p o)
-names_field-by p (Some (NameAndType n d)) = names_by is_text is_field_type (λ _. Unit {0}) IsField is_text-Decides is_field_type-Decides p n d
-names_field-by p (Some c) = (λ e. absurd cc, λ h. absurd (let e = h.2 in cc))
-names_field-by p None = (λ e. absurd cc, λ h. absurd (let e = h.2 in cc))
-
-names_field-Decides : (p : Pool) (i : ℕ) → Decides (names_field p (constant_at p i)) (IsFieldAt p i)
-names_field-Decides p i = Decides-like _ (λ h. (h.0, h.1, h.2, h.4)) (λ h. (h.0, h.1, h.2, tt, h.3)) (names_field-by p (constant_at p i))
+names_field-Decides : (p : Pool) (o : Option Constant) → Decides (names_field p o) (NamesBy IsUnqualifiedName IsField p o)
+names_field-Decides p (Some (NameAndType n d)) =
+    names_by is_unqualified_name is_field_type IsUnqualifiedName IsField is_unqualified_name-Decides is_field_type-Decides p n d
+names_field-Decides p (Some c) = (λ e. absurd cc, λ h. absurd (let e = h.2 in cc))
+names_field-Decides p None = (λ e. absurd cc, λ h. absurd (let e = h.2 in cc))
 
 pub has_texts-Decides : (p : Pool) (c : Constant) → Decides (has_texts p c) (HasTexts p c)
 has_texts-Decides p (Utf8 text) = (λ _. tt, λ _. refl)
@@ -143,7 +137,7 @@ has_texts-Decides p (Long n) = (λ _. tt, λ _. refl)
 has_texts-Decides p (Double n) = (λ _. tt, λ _. refl)
 has_texts-Decides p (Class name) = text_is-Decides is_class_text _ is_class_text-Decides p name
 has_texts-Decides p (Text text) = (λ _. tt, λ _. refl)
-has_texts-Decides p (Field c n) = names_field-Decides p n
+has_texts-Decides p (Field c n) = names_field-Decides p (constant_at p n)
 has_texts-Decides p (Method c n) = names_method-Decides p (constant_at p n)
 has_texts-Decides p (InterfaceMethod c n) = names_method-Decides p (constant_at p n)
 has_texts-Decides p (NameAndType n d) =

@@ -1,5 +1,5 @@
 -- The outcome of a class file, computed. That it is the one of FirstFaults is shown in this crate's proofs.
-use Rattle.std.specs.Prelude.{Bool, true, false, ℕ, ◌+◌, ◌^◌, List, [], ◌∷◌, Option, Some, None, Result, Ok, Err, option_map, option_and_then, nat_eq, nat_lt, nat_le, ◌||◌, ◌&&◌, not, if◌then◌else◌, bit_and, length, codes}
+use Rattle.std.specs.Prelude.{Bool, true, false, ℕ, ◌+◌, ◌^◌, List, [], ◌∷◌, Option, Some, None, Ok, Err, option_map, option_and_then, nat_eq, nat_lt, nat_le, ◌||◌, ◌&&◌, not, if◌then◌else◌, bit_and, length, codes}
 use Rattle.std.specs.Option.{option_map_or}
 use Rattle.std.specs.List.{list_all, list_any}
 use Rattle.std.specs.Str.{bytes_eq}

@@ -1,7 +1,7 @@
 -- The first violated item of a class file: its items and rules, in the order in which they are checked.
 use Rattle.std.specs.Prelude.{◌≡◌, ◌<◌, ℕ, List, [], All, Any, codes, Ok, Err}
-use Rattle.byte_form.specs.Places.{State, start}
-use Rattle.byte_form.specs.Forms.{Fault, Truncated, Broken, Form, number, bytes, here, rule, made, list, either, inside, ◌>>=◌, ◌>>◌}
+use Rattle.byte_form.specs.Places.{start}
+use Rattle.byte_form.specs.Forms.{Fault, Broken, Form, number, bytes, here, rule, made, list, either, inside, ◌>>=◌, ◌>>◌}
 use Rattle.class_form.specs.PoolRules.{IsUtf}
 use Rattle.class_form.specs.ClassRules.{IsNamed, IsPlainClass, IsSuperclass, AreFieldTexts, AreMethodTexts, HasTextsOf, IsCode, HasCodeWhereNeeded, IsCodeLength, IsHandler, HasSlots, HasLocalsForAll, IsOfKind, IsVersion}
 use Rattle.class_form.specs.PoolFaults.{pool}

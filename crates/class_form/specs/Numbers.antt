@@ -1,5 +1,5 @@
 -- The numbers of classes, methods and fields, and what is asked of class files before they are numbered.
-use Rattle.std.specs.Prelude.{◌≡◌, ◌⊎◌, ◌<◌, ◌+◌, ◌^◌, ℕ, List, length, Some, All, AllPairs}
+use Rattle.std.specs.Prelude.{◌≡◌, ◌⊎◌, ◌<◌, ◌^◌, ℕ, List, length, Some, All, AllPairs}
 use Rattle.slicer_ids.specs.Sets.{IsOrderedListOf}
 use Rattle.slicer_ids.specs.Order.{BytesBefore}
 use Rattle.class_form.specs.Pools.{utf_at}

@@ -1,6 +1,6 @@
 -- The first violated item of a constant pool: its items and rules, in the order in which they are checked.
 use Rattle.std.specs.Prelude.{◌≡◌, ◌⊎◌, ◌<◌, ◌-◌, ◌+◌, nat_eq, ◌||◌, if◌then◌else◌, ℕ, suc, List, [], ◌∷◌, ◌++◌, length, Ok, Err}
-use Rattle.byte_form.specs.Places.{State, Takes, start}
+use Rattle.byte_form.specs.Places.{Takes, start}
 use Rattle.byte_form.specs.Forms.{Fault, Truncated, Broken, Form, number, bytes, here, rule, made, list, either, ◌>>=◌, ◌>>◌}
 use Rattle.class_form.specs.Utf8.{IsModifiedUtf8}
 use Rattle.class_form.specs.Spelling.{tag_of, spell_info, spell_constant, spell_pool}

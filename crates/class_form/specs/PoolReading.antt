@@ -1,5 +1,5 @@
 -- The outcome of a constant pool, computed. That it is the one of PoolFaults is shown in this crate's proofs.
-use Rattle.std.specs.Prelude.{Bool, true, false, ℕ, suc, ◌+◌, ◌-◌, List, [], ◌∷◌, length, Option, Some, None, Ok, nat_eq, nat_lt, nat_le, ◌||◌, ◌&&◌, not, if◌then◌else◌}
+use Rattle.std.specs.Prelude.{Bool, true, false, ℕ, suc, ◌+◌, ◌-◌, List, [], ◌∷◌, length, Option, Some, Ok, nat_eq, nat_lt, nat_le, ◌||◌, ◌&&◌, not, if◌then◌else◌}
 use Rattle.std.specs.Option.{option_map_or}
 use Rattle.byte_form.specs.Places.{State}
 use Rattle.byte_form.specs.Forms.{Fault, Broken, Outcome}
@@ -121,15 +121,12 @@ has_kinds p c = true
 abbrev pub text_is : (List ℕ → Bool) → Pool → ℕ → Bool
 text_is test p i = option_map_or test (utf_at p i) false
 
-abbrev pub is_text : List ℕ → Bool
-is_text text = true
-
 -- how a class or an array is named
 abbrev pub is_class_text : List ℕ → Bool
 is_class_text text = is_class_name text || is_array_type text
 
 abbrev pub names_field : Pool → Option Constant → Bool
-names_field p (Some (NameAndType name descriptor)) = text_is is_text p name && text_is is_field_type p descriptor
+names_field p (Some (NameAndType name descriptor)) = text_is is_unqualified_name p name && text_is is_field_type p descriptor
 names_field p o = false
 
 abbrev pub names_method : Pool → Option Constant → Bool

@@ -1,10 +1,10 @@
 -- Which constant pools there are: the rules on constants (JVMS SE 7 4.4), by their numbers.
-use Rattle.std.specs.Prelude.{◌≡◌, ◌⊎◌, ◌<◌, ◌≤◌, ◌^◌, ℕ, suc, Bool, true, false, List, [], ◌∷◌, length, Option, Some, option_and_then}
+use Rattle.std.specs.Prelude.{◌≡◌, ◌⊎◌, ◌<◌, ◌≤◌, ◌^◌, ℕ, suc, List, [], ◌∷◌, length, Option, Some, option_and_then}
 use Rattle.std.specs.List.{AllByRecursion}
 use Rattle.class_form.specs.Utf8.{IsModifiedUtf8}
 use Rattle.class_form.specs.Names.{IsUnqualifiedName, IsMethodName, IsClassName}
 use Rattle.class_form.specs.Types.{IsFieldType, IsArrayType, IsMethodType}
-use Rattle.class_form.specs.Pools.{constant_at, utf_at, class_at, name_and_type_of}
+use Rattle.class_form.specs.Pools.{constant_at, utf_at, name_and_type_of}
 use Rattle.class_form.specs.declared.types.FieldType.{FieldType}
 use Rattle.class_form.specs.declared.types.MethodType as types
 use Rattle.class_form.specs.declared.pool.Pool.{Pool}
@@ -104,9 +104,10 @@ IsMethod text = (t : types.MethodType) × IsMethodType text t
 abbrev pub name_and_type_at : Pool → ℕ → Option (List ℕ × List ℕ)
 name_and_type_at p i = option_and_then (name_and_type_of p) (constant_at p i)
 
--- a field type stands at the index
+-- an unqualified name and a field type stand at the index
 abbrev pub IsFieldAt : Pool → ℕ → Type 0
-IsFieldAt p i = (name : List ℕ) × (descriptor : List ℕ) × (name_and_type_at p i ≡ Some (name, descriptor)) × IsField descriptor
+IsFieldAt p i =
+    (name : List ℕ) × (descriptor : List ℕ) × (name_and_type_at p i ≡ Some (name, descriptor)) × IsUnqualifiedName name × IsField descriptor
 
 -- a method name and a method type stand at the index
 abbrev pub IsMethodAt : Pool → ℕ → Type 0

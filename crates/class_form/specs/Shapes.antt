@@ -178,6 +178,7 @@ BreaksFirst body instrs rule pc =
 
 -- the instructions follow one another from the start of the code to its end, and jump to one another
 pub record AreInstrsOf (size : ℕ) (instrs : List Instr) : Type 0 where
+  pub some : 0 < length instrs
   pub first : (i : Instr) → slice_get instrs 0 ≡ Some i → i.pc ≡ 0
   pub follow : (k : ℕ) (i j : Instr) → slice_get instrs k ≡ Some i → slice_get instrs (k + 1) ≡ Some j → j.pc ≡ i.pc + i.size
   pub last : (k : ℕ) (i : Instr) → slice_get instrs k ≡ Some i → slice_get instrs (k + 1) ≡ None → i.pc + i.size ≡ size

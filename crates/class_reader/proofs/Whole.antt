@@ -1,5 +1,5 @@
 -- What is read of all of a file.
-use Rattle.std.proofs.Common.{◌≡◌, ℕ, List, Result, Ok, Err, refl, sym, ap, subst, ◌∙◌}
+use Rattle.std.proofs.Common.{◌≡◌, ℕ, List, Result, Ok, Err, ap, subst}
 use Rattle.std.specs.Prelude.{IfOk}
 use Rattle.byte_form.specs.Places.{State, IsBytes, start}
 use Rattle.byte_form.specs.Forms.{Outcome, Truncated, Broken}
@@ -8,7 +8,7 @@ use Rattle.class_form.specs.FirstFaults.{ClassFault, NotClass, Version, Item, Tr
 use Rattle.class_form.specs.ClassReading.{read_file}
 use Rattle.class_form.proofs.ClassLaws.{read_found, read_again, fault_found, fault_again}
 use Rattle.class_form.specs.declared.class_file.ClassFile.{ClassFile}
-use Rattle.class_reader.specs.Errors.{FileFails, FileAnswers, IfFileFault, without_end}
+use Rattle.class_reader.specs.Errors.{FileAnswers, IfFileFault, without_end}
 use Rattle.class_reader.specs.declared.error.ReadError.{ReadError}
 use Rattle.class_reader.specs.declared.error.ReadError.TheVariants as errors
 

@@ -12,6 +12,7 @@ ghost use Rattle.class_reader.specs.Errors.{FileGives, FileAnswers, IfFileFault,
 use crate::attributes::plain_attributes;
 use crate::error::ReadError;
 use crate::methods::{fields, methods};
+use crate::numbers::numbers;
 use crate::rules::{is_plain_class, is_superclass};
 use byte_form::cursor::Cursor;
 use byte_form::error::ItemError;
@@ -86,8 +87,9 @@ fn class(
         });
     }
     let interfaces = interfaces(alloc, &pool, cursor)?;
-    let fields = fields(alloc, &pool, &kinds, cursor)?;
-    let methods = methods(alloc, &pool, &kinds, flags, cursor)?;
+    let numbers = numbers(alloc, &pool)?;
+    let fields = fields(alloc, &pool, &kinds, &numbers, cursor)?;
+    let methods = methods(alloc, &pool, &kinds, &numbers, flags, cursor)?;
     let attributes = plain_attributes(alloc, &pool, cursor)?;
     Ok(ClassFile {
         minor,

@@ -7,6 +7,7 @@ mod code;
 mod error;
 mod lines;
 mod methods;
+mod numbers;
 mod rules;
 
 pub use class::read_class;

@@ -1,5 +1,7 @@
 // Fields and methods.
-ghost use Rattle.std.specs.Prelude.{◌≡◌, []};
+ghost use Rattle.std.specs.Prelude.{◌≡◌, ◌∷◌, ◌++◌, [], IfOk, IsSome};
+ghost use Rattle.class_form.specs.Pools.{utf_at};
+ghost use Rattle.class_reader.specs.Numbers.{AreNumbersOf, IsSeen, AreTexts, names_of};
 ghost use Rattle.byte_form.specs.States.{state};
 ghost use Rattle.byte_form.specs.Reading.{Gives, list_at};
 ghost use Rattle.class_form.specs.ClassReading.{read_counted, read_other_content, read_content, read_method_attribute, read_field, read_method};
@@ -7,9 +9,10 @@ ghost use Rattle.const_pool.specs.Texts.{AreKindsOf};
 
 use crate::attributes::{kept, plain_attributes};
 use crate::code::code;
+use crate::numbers::is_new;
 use crate::rules::{
     are_field_texts, are_method_texts, has_code_where_needed, has_locals_for_all, has_slots,
-    is_named, is_new, is_of_kind,
+    is_named, is_of_kind,
 };
 use byte_form::cursor::Cursor;
 use byte_form::error::ItemError;
@@ -19,6 +22,7 @@ use const_pool::is_utf;
 use const_pool::texts::TextKinds;
 use slicer_ids::list::List;
 use std::alloc::Global;
+use std::collections::BTreeSet;
 
 #[tactic(auto, unfolding(class_form::specs::ClassReading::read_other_content))]
 fn other(alloc: Global, cursor: &mut Cursor<'_>) -> Result<Content, ItemError>
@@ -97,11 +101,18 @@ fn field(
     alloc: Global,
     pool: &Pool,
     kinds: &[TextKinds],
+    numbers: &[usize],
     before: &[Member],
+    seen: &mut BTreeSet<(usize, usize)>,
     cursor: &mut Cursor<'_>,
 ) -> Result<Member, ItemError>
-    requires { AreKindsOf pool.now kinds.now }
-    ensures { Gives (λ x. x) result (state cursor.new) (read_field pool.now before.now (state cursor.old)) }
+    requires kinds { AreKindsOf pool.now kinds.now }
+    requires numbers { AreNumbersOf pool.now numbers.now }
+    requires seen { IsSeen numbers.now seen.old (names_of before.now) }
+    requires texts { AreTexts pool.now (names_of before.now) }
+    ensures gives { Gives (λ x. x) result (state cursor.new) (read_field pool.now before.now (state cursor.old)) }
+    ensures seen { IfOk result (λ m. IsSeen numbers.now seen.new (names_of before.now ++ (m.name, m.descriptor) ∷ [])) }
+    ensures texts { IfOk result (λ m. IsSome (utf_at pool.now m.name) × IsSome (utf_at pool.now m.descriptor)) }
 {
     let at = cursor.at();
     let flags = cursor.u2()?;
@@ -110,7 +121,7 @@ fn field(
     if !are_field_texts(pool, kinds, name, descriptor) {
         return Err(ItemError::Broken { rule: 9, at });
     }
-    if !is_new(pool, before, name, descriptor) {
+    if !is_new(pool, numbers, before, seen, name, descriptor)? {
         return Err(ItemError::Broken { rule: 10, at });
     }
     let attributes = plain_attributes(alloc, pool, cursor)?;
@@ -127,14 +138,17 @@ fn field_list(
     count: u16,
     pool: &Pool,
     kinds: &[TextKinds],
+    numbers: &[usize],
     cursor: &mut Cursor<'_>,
 ) -> Result<Vec<Member>, ItemError>
-    requires { AreKindsOf pool.now kinds.now }
+    requires kinds { AreKindsOf pool.now kinds.now }
+    requires numbers { AreNumbersOf pool.now numbers.now }
     ensures { Gives (λ v. v.items) result (state cursor.new) (list_at (read_field pool.now) count [] (state cursor.old)) }
 {
+    let mut seen = BTreeSet::new(alloc);
     let mut items = Vec::new(alloc);
     for _ in 0..count {
-        let next = field(alloc, pool, kinds, &items, cursor)?;
+        let next = field(alloc, pool, kinds, numbers, &items, &mut seen, cursor)?;
         items.push(next)?;
     }
     Ok(items)
@@ -145,13 +159,15 @@ pub fn fields(
     alloc: Global,
     pool: &Pool,
     kinds: &[TextKinds],
+    numbers: &[usize],
     cursor: &mut Cursor<'_>,
 ) -> Result<List<Member>, ItemError>
-    requires { AreKindsOf pool.now kinds.now }
+    requires kinds { AreKindsOf pool.now kinds.now }
+    requires numbers { AreNumbersOf pool.now numbers.now }
     ensures { Gives (λ x. x) result (state cursor.new) (read_counted (read_field pool.now) (state cursor.old)) }
 {
     let count = cursor.u2()?;
-    let items = field_list(alloc, count, pool, kinds, cursor)?;
+    let items = field_list(alloc, count, pool, kinds, numbers, cursor)?;
     Ok(List::from_vec(items))
 }
 
@@ -160,12 +176,19 @@ fn method(
     alloc: Global,
     pool: &Pool,
     kinds: &[TextKinds],
+    numbers: &[usize],
     class_flags: u16,
     before: &[Member],
+    seen: &mut BTreeSet<(usize, usize)>,
     cursor: &mut Cursor<'_>,
 ) -> Result<Member, ItemError>
-    requires { AreKindsOf pool.now kinds.now }
-    ensures { Gives (λ x. x) result (state cursor.new) (read_method pool.now class_flags before.now (state cursor.old)) }
+    requires kinds { AreKindsOf pool.now kinds.now }
+    requires numbers { AreNumbersOf pool.now numbers.now }
+    requires seen { IsSeen numbers.now seen.old (names_of before.now) }
+    requires texts { AreTexts pool.now (names_of before.now) }
+    ensures gives { Gives (λ x. x) result (state cursor.new) (read_method pool.now class_flags before.now (state cursor.old)) }
+    ensures seen { IfOk result (λ m. IsSeen numbers.now seen.new (names_of before.now ++ (m.name, m.descriptor) ∷ [])) }
+    ensures texts { IfOk result (λ m. IsSome (utf_at pool.now m.name) × IsSome (utf_at pool.now m.descriptor)) }
 {
     let at = cursor.at();
     let flags = cursor.u2()?;
@@ -174,7 +197,7 @@ fn method(
     if !are_method_texts(pool, kinds, name, descriptor) {
         return Err(ItemError::Broken { rule: 9, at });
     }
-    if !is_new(pool, before, name, descriptor) {
+    if !is_new(pool, numbers, before, seen, name, descriptor)? {
         return Err(ItemError::Broken { rule: 10, at });
     }
     if !has_slots(pool, kinds, flags, descriptor) {
@@ -203,15 +226,27 @@ fn method_list(
     count: u16,
     pool: &Pool,
     kinds: &[TextKinds],
+    numbers: &[usize],
     class_flags: u16,
     cursor: &mut Cursor<'_>,
 ) -> Result<Vec<Member>, ItemError>
-    requires { AreKindsOf pool.now kinds.now }
+    requires kinds { AreKindsOf pool.now kinds.now }
+    requires numbers { AreNumbersOf pool.now numbers.now }
     ensures { Gives (λ v. v.items) result (state cursor.new) (list_at (read_method pool.now class_flags) count [] (state cursor.old)) }
 {
+    let mut seen = BTreeSet::new(alloc);
     let mut items = Vec::new(alloc);
     for _ in 0..count {
-        let next = method(alloc, pool, kinds, class_flags, &items, cursor)?;
+        let next = method(
+            alloc,
+            pool,
+            kinds,
+            numbers,
+            class_flags,
+            &items,
+            &mut seen,
+            cursor,
+        )?;
         items.push(next)?;
     }
     Ok(items)
@@ -222,13 +257,15 @@ pub fn methods(
     alloc: Global,
     pool: &Pool,
     kinds: &[TextKinds],
+    numbers: &[usize],
     class_flags: u16,
     cursor: &mut Cursor<'_>,
 ) -> Result<List<Member>, ItemError>
-    requires { AreKindsOf pool.now kinds.now }
+    requires kinds { AreKindsOf pool.now kinds.now }
+    requires numbers { AreNumbersOf pool.now numbers.now }
     ensures { Gives (λ x. x) result (state cursor.new) (read_counted (read_method pool.now class_flags) (state cursor.old)) }
 {
     let count = cursor.u2()?;
-    let items = method_list(alloc, count, pool, kinds, class_flags, cursor)?;
+    let items = method_list(alloc, count, pool, kinds, numbers, class_flags, cursor)?;
     Ok(List::from_vec(items))
 }

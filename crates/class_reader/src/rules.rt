@@ -1,10 +1,10 @@
 // The rules, one test each.
 ghost use Rattle.std.specs.Prelude.{◌≡◌, codes};
 ghost use Rattle.std.specs.List.{list_any, list_all};
-ghost use Rattle.class_form.specs.ClassReading.{is_set, is_named, names_array, is_plain_class, is_class_named, is_superclass, are_field_texts, are_method_texts, is_initializer, has_texts_of, is_new, slots_at, has_slots, is_of_kind, needs_code, is_code, has_code_where_needed, has_locals, has_locals_for_all, is_handler};
+ghost use Rattle.class_form.specs.ClassReading.{is_set, is_named, names_array, is_plain_class, is_class_named, is_superclass, are_field_texts, are_method_texts, is_initializer, slots_at, has_slots, is_of_kind, needs_code, is_code, has_code_where_needed, has_locals, has_locals_for_all, is_handler};
 ghost use Rattle.const_pool.specs.Texts.{AreKindsOf};
 
-use class_form::class_file::{Attribute, Content, Handler, Member};
+use class_form::class_file::{Attribute, Content, Handler};
 use class_form::pool::Pool;
 use const_pool::texts::TextKinds;
 use const_pool::{is_class, kinds_at};
@@ -208,19 +208,4 @@ pub fn is_handler(pool: &Pool, len: u32, handler: &Handler) -> bool
         && (u32::from(handler.end) <= len
             && (u32::from(handler.handler) < len
                 && (handler.catch_type == 0 || is_class(pool, handler.catch_type))))
-}
-
-fn has_texts_of(pool: &Pool, name: u16, descriptor: u16, member: &Member) -> bool
-    ensures { result ≡ has_texts_of pool.now name descriptor member.now }
-{
-    pool.utf(member.name) == pool.utf(name) && pool.utf(member.descriptor) == pool.utf(descriptor)
-}
-
-/// Whether none of the members has this name and descriptor.
-pub fn is_new(pool: &Pool, before: &[Member], name: u16, descriptor: u16) -> bool
-    ensures { result ≡ is_new pool.now before.now name descriptor }
-{
-    before
-        .iter()
-        .all(|member| !has_texts_of(pool, name, descriptor, member))
 }

@@ -5,7 +5,7 @@ use Rattle.std.specs.Option.{option_map_or}
 use Rattle.std.proofs.lemmas.Option.{slice_get-map}
 use Rattle.class_form.specs.NameTests.{is_unqualified_name, is_method_name, is_field_type, is_method_type, parameter_slots, InDescriptor, Open, End, slots_at_end, is_end, reached, go_on_descriptor}
 use Rattle.class_form.specs.Pools.{text_of, constant_at}
-use Rattle.class_form.specs.PoolReading.{is_text, is_class_text}
+use Rattle.class_form.specs.PoolReading.{is_class_text}
 use Rattle.class_form.specs.declared.pool.Pool.{Pool}
 use Rattle.class_form.specs.declared.pool.Constant.{Constant}
 use Rattle.class_form.specs.declared.pool.Constant.TheVariants.{Utf8}
@@ -19,7 +19,6 @@ end_slots (Some s) = refl
 
 -- the same by the constant
 record Are (o : Option Constant) (k : TextKinds) : Type 0 where
-  text : k.text ≡ option_map_or is_text (option_and_then text_of o) false
   unqualified : k.unqualified ≡ option_map_or is_unqualified_name (option_and_then text_of o) false
   method_name : k.method_name ≡ option_map_or is_method_name (option_and_then text_of o) false
   class : k.class ≡ option_map_or is_class_text (option_and_then text_of o) false
@@ -28,14 +27,14 @@ record Are (o : Option Constant) (k : TextKinds) : Type 0 where
   slots : k.slots ≡ option_and_then parameter_slots (option_and_then text_of o)
 
 of_constant : (c : Constant) → Are (Some c) (kinds_of c)
-of_constant (Utf8 t) = record { text = refl; unqualified = refl; method_name = refl; class = refl; field = refl; method = end_slots (reached go_on_descriptor Open t); slots = refl }
-of_constant c = record { text = refl; unqualified = refl; method_name = refl; class = refl; field = refl; method = refl; slots = refl }
+of_constant (Utf8 t) = record { unqualified = refl; method_name = refl; class = refl; field = refl; method = end_slots (reached go_on_descriptor Open t); slots = refl }
+of_constant c = record { unqualified = refl; method_name = refl; class = refl; field = refl; method = refl; slots = refl }
 
 of_none : Are None no_kinds
-of_none = record { text = refl; unqualified = refl; method_name = refl; class = refl; field = refl; method = refl; slots = refl }
+of_none = record { unqualified = refl; method_name = refl; class = refl; field = refl; method = refl; slots = refl }
 
 at_constant : (p : Pool) (i : ℕ) (k : TextKinds) → Are (constant_at p i) k → IsKinds p i k
-at_constant p i k h = record { text = h.text; unqualified = h.unqualified; method_name = h.method_name; class = h.class; field = h.field; method = h.method; slots = h.slots }
+at_constant p i k h = record { unqualified = h.unqualified; method_name = h.method_name; class = h.class; field = h.field; method = h.method; slots = h.slots }
 
 by_option : (o : Option Constant) (k : TextKinds) → option_map kinds_of o ≡ Some k → Are o k
 by_option None k e = absurd cc

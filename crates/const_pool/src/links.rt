@@ -80,14 +80,14 @@ pub fn kinds_at(pool: &Pool, kinds: &[TextKinds], i: u16) -> TextKinds
     }
 }
 
-// Whether a name and a field type stand at the index.
+// Whether an unqualified name and a field type stand at the index.
 fn names_field(pool: &Pool, kinds: &[TextKinds], i: u16) -> bool
     requires { AreKindsOf pool.now kinds.now }
     ensures { result ≡ names_field pool.now (constant_at pool.now i) }
 {
     match pool.constant(i) {
         Some(Constant::NameAndType(name, descriptor)) => {
-            kinds_at(pool, kinds, *name).text && kinds_at(pool, kinds, *descriptor).field
+            kinds_at(pool, kinds, *name).unqualified && kinds_at(pool, kinds, *descriptor).field
         }
         _ => false,
     }

@@ -12,7 +12,6 @@ use std::alloc::{AllocError, Global};
 /// What a constant is as a text. A constant that is no text is nothing.
 #[derive(Clone, Copy)]
 pub struct TextKinds {
-    pub text: bool,
     pub unqualified: bool,
     pub method_name: bool,
     /// The name of a class, or an array type.
@@ -26,7 +25,6 @@ pub struct TextKinds {
 impl TextKinds {
     /// Of what is no text.
     pub const NONE: TextKinds = TextKinds {
-        text: false,
         unqualified: false,
         method_name: false,
         class: false,
@@ -39,7 +37,6 @@ fn kinds_of_text(text: &[u8]) -> TextKinds
     ensures { result ≡ kinds_of_text text.now }
 {
     TextKinds {
-        text: true,
         unqualified: is_unqualified_name(text),
         method_name: is_method_name(text),
         class: is_class_name(text) || is_array_type(text),

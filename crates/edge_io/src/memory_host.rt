@@ -179,7 +179,7 @@ impl Host for MemoryHost {
         };
         let bytes = Name::from_bytes(self.alloc, bytes)?;
         let failing = calls_at(self.alloc, self.sources.items(), path.as_bytes())?;
-        Ok(MemorySource::new(bytes, failing))
+        Ok(MemorySource::new(self.alloc, bytes, failing))
     }
 
     fn create(&mut self, path: &str) -> Result<MemorySink, HostError> {

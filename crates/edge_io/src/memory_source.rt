@@ -6,6 +6,7 @@ use crate::calls::Calls;
 use crate::source::{Fault, Source};
 use slicer_ids::list::List;
 use slicer_ids::name::Name;
+use std::alloc::Global;
 
 /// Bytes that are read once. It tells what is left, and is steady exactly where no call is to fail.
 #[derive(Drop, Debug)]
@@ -23,11 +24,12 @@ impl MemorySource {
     ghost use Rattle.edge_io.specs.Memory.{left_of, is_steady_source};
 
     /// A source over the bytes. The calls of `read` with the numbers in `failing`, from 1, fail.
-    pub fn new(bytes: Name, failing: List<u64>) -> MemorySource
+    pub fn new(alloc: Global, bytes: Name, failing: List<u64>) -> MemorySource
         ensures bytes { left_of result ≡ bytes }
         ensures failing { result.calls.failing ≡ failing }
         ensures start { (result.calls.count ≡ 0) × (result.calls.faults ≡ 0) }
     {
+        let _ = alloc;
         MemorySource {
             bytes,
             at: 0,

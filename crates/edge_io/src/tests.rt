@@ -26,7 +26,7 @@ fn calls(rt: &HostRuntime, path: &[u8], number: u64) -> Result<List<(Name, u64)>
 #[test]
 fn source_gives_its_bytes_once(rt: HostRuntime) -> Result<(), Fail> {
     let bytes = Name::from_bytes(rt.alloc(), b"abc")?;
-    let mut source = MemorySource::new(bytes, numbers(&rt, &[2])?);
+    let mut source = MemorySource::new(rt.alloc(), bytes, numbers(&rt, &[2])?);
     let mut into = [0u8; 2];
     assert_eq!(rt; source.read(&mut into), Ok(2));
     assert_eq!(rt; into.as_slice(), b"ab".as_slice());

@@ -1,17 +1,16 @@
 -- The facts of the least program without arguments.
-use Rattle.std.proofs.Common.{◌≡◌, ◌<◌, ◌≤◌, ◌+◌, ◌-◌, ◌^◌, ◌⊎◌, ℕ, zero, suc, Bool, true, false, List, [], ◌∷◌, ◌++◌, length, take, get_or, Option, Some, None, Contains, refl, sym, subst, ap, ◌∙◌, inl, inr, arith}
+use Rattle.std.proofs.Common.{◌≡◌, ◌<◌, ◌≤◌, ◌+◌, ◌-◌, ◌^◌, ◌⊎◌, ℕ, zero, suc, true, List, [], ◌∷◌, take, get_or, Option, Some, None, Contains, refl, sym, subst, inl, inr, arith}
 use Rattle.std.specs.Prelude.{slice_get, codes, All, AllPairs}
 use Rattle.std.specs.List.Sorted.{IsPartitionedBy}
 use Rattle.std.specs.declared.cmp.Ordering.{Ordering}
 use Rattle.std.specs.Ordering.{nat_cmp}
 use Rattle.std.specs.Cmp.Lexicographic.{slice_cmp}
-use Rattle.std.proofs.lemmas.Option.{same_Some, slice_get_within}
+use Rattle.std.proofs.lemmas.Option.{same_Some}
 use Rattle.std.proofs.lemmas.List.Elements.{All-cons}
 use Rattle.slicer_ids.specs.declared.ids.MethodId.{MethodId}
 use Rattle.slicer_ids.specs.declared.ids.ClassId.{ClassId}
 use Rattle.slicer_ids.specs.declared.ids.SiteId.{SiteId}
 use Rattle.slicer_ids.specs.declared.ids.NodeId.{NodeId}
-use Rattle.slicer_ids.specs.declared.ids.LocId.{LocId}
 use Rattle.slicer_ids.specs.declared.ids.Statement.{Statement}
 use Rattle.dep_form.specs.declared.node.Node.{Node}
 use Rattle.dep_form.specs.declared.node.Node.TheVariants.{Own}
@@ -25,7 +24,7 @@ use Rattle.dep_form.specs.Nodes.{is_formal, is_exit}
 use Rattle.dep_form.specs.Firsts.{node_count}
 use Rattle.dep_form.specs.Orders.{RiseBy, line_cmp, method_cmp, statement_cmp, node_cmp}
 use Rattle.dep_form.specs.Keys.{key_of_text, key_of_line, key_of_access, key_of_value}
-use Rattle.dep_form.specs.Inputs.{IsInputOf, IsNodeOf, IsNode, IsEdge, IsEdgeOf, IsHeapFlow, IsExitNode}
+use Rattle.dep_form.specs.Inputs.{IsNodeOf, IsNode, IsEdge, IsEdgeOf, IsExitNode}
 use Rattle.dep_form.proofs.Searching.{all_at}
 use Rattle.dep_form.specs.WithinFacts.{AreFacts, FollowOn, IsOfMethod, IsOfSites, IfOfMethod, NodeBefore}
 

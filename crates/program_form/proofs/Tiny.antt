@@ -1,24 +1,22 @@
 -- What there is in the least program, and what facts hold of it.
-use Rattle.std.proofs.Common.{◌≡◌, ◌<◌, ◌≤◌, ◌⊎◌, ℕ, zero, suc, true, List, [], ◌∷◌, length, get_or, Option, Some, None, Contains, refl, sym, subst, ap, ◌∙◌, inl, inr, arith}
+use Rattle.std.proofs.Common.{◌≡◌, ◌⊎◌, ℕ, zero, suc, List, [], ◌∷◌, get_or, Some, Contains, refl, sym, subst, ap, ◌∙◌, inl, inr, arith}
 use Rattle.std.specs.Prelude.{slice_get, codes}
 use Rattle.std.proofs.lemmas.Option.{same_Some}
 use Rattle.slicer_ids.specs.declared.ids.MethodId.{MethodId}
-use Rattle.slicer_ids.specs.declared.ids.FieldId.{FieldId}
 use Rattle.slicer_ids.specs.declared.ids.Statement.{Statement}
-use Rattle.dep_form.proofs.Closed.{Contains-cons_cases}
-use Rattle.class_form.specs.Opcodes.{IsLoad, IsStore, IsArrayLoad, IsArrayStore, IsReferenceLoad, IsReferenceStore, IsConstant, IsValueReturn, IsGetStatic, IsPutStatic, IsGetField, IsPutField, IsCall, IsVirtualCall, IsSpecialCall, IsStaticCall, IsNew, IsNewArray, IsThrow, IsCheckCast, IsMultiNewArray, IsArrayLength}
-use Rattle.class_form.specs.Classes.{Declared, IsClass}
+use Rattle.class_form.specs.Opcodes.{IsLoad, IsStore, IsReferenceLoad, IsReferenceStore, IsConstant, IsValueReturn, IsGetStatic, IsPutStatic, IsGetField, IsPutField, IsCall, IsVirtualCall, IsSpecialCall, IsStaticCall, IsNew, IsThrow, IsCheckCast, IsMultiNewArray}
+use Rattle.class_form.specs.Classes.{Declared}
 use Rattle.class_form.specs.declared.body.Body.{Body}
 use Rattle.class_form.specs.declared.body.Instr.{Instr}
 use Rattle.class_form.specs.declared.types.FieldType.{FieldType}
 use Rattle.class_form.specs.declared.class_file.ClassFile.{ClassFile}
 use Rattle.class_form.specs.declared.class_file.Member.{Member}
 use Rattle.dep_form.specs.declared.rules.Entry.{Entry}
-use Rattle.dep_form.specs.PointsTo.{Fact, Reached, Has, Cell, Calls, OutsideAt}
-use Rattle.program_form.specs.Programs.{Program, MethodOf, Initializes}
+use Rattle.dep_form.specs.PointsTo.{Reached, Has, Cell}
+use Rattle.program_form.specs.Programs.{MethodOf, Initializes}
 use Rattle.program_form.specs.Statements.{HasOpcode}
 use Rattle.program_form.specs.Sites.{Site, Made, OfRoot, HasType, of_new, of_primitive_array, of_reference_array, of_dimension, of_constant, of_result, of_arguments, of_argument}
-use Rattle.program_form.specs.Facts.{ProgramFact, IsAllocation, Runs, IsRaised, ArgumentOf, Elements, Follows, Holds, enters, given, given_elements, entry_initializes, initializes, allocates, nests, reads_fresh, copies, casts, answers, reads_field, reads_element, reads_static, writes_field, writes_element, writes_static, calls, calls_enter, calls_receive, goes_outside, goes_outside_at, selects, selects_enter, selects_receive, selects_outside, passes, receives, throws, catches, leaves, answers_fresh, outside_gives, outside_writes}
+use Rattle.program_form.specs.Facts.{ProgramFact, IsAllocation, ArgumentOf, Elements, Follows, Holds, enters, given, given_elements, entry_initializes, initializes, allocates, nests, reads_fresh, copies, casts, answers, reads_field, reads_element, reads_static, writes_field, writes_element, writes_static, calls, calls_enter, calls_receive, goes_outside, goes_outside_at, selects, selects_enter, selects_receive, selects_outside, passes, receives, throws, catches, leaves, answers_fresh, outside_gives, outside_writes}
 use Rattle.program_form.proofs.Closed.{all_in}
 use Rattle.program_form.specs.Tiny.{tiny_program, tiny_body, tiny_instruction, tiny_method, tiny_place, tiny_class, tiny_member, tiny_pool, tiny_entry}
 use Rattle.class_form.specs.Pools.{utf_at}

@@ -1,18 +1,13 @@
 -- The system of the least program.
-use Rattle.std.proofs.Common.{◌≡◌, ◌<◌, ◌≤◌, ◌+◌, ◌⊎◌, ℕ, zero, suc, Bool, true, false, List, [], ◌∷◌, length, get_or, Option, Some, None, Contains, refl, sym, subst, ap, ◌∙◌, inl, inr, arith}
-use Rattle.std.specs.Prelude.{slice_get, codes, All, ◌↔◌}
-use Rattle.std.proofs.lemmas.Bool.{false≢true}
-use Rattle.std.proofs.lemmas.Option.{same_Some, slice_get_within}
+use Rattle.std.proofs.Common.{◌≡◌, ◌<◌, ◌≤◌, ◌⊎◌, ℕ, true, false, [], ◌∷◌, Option, Some, None, refl, sym, subst, ap, inl, inr, arith}
+use Rattle.std.specs.Prelude.{slice_get, All}
 use Rattle.std.proofs.lemmas.List.Elements.{All-cons}
-use Rattle.slicer_ids.specs.Sets.{IsOrderedListOf}
 use Rattle.slicer_ids.specs.declared.ids.MethodId.{MethodId}
 use Rattle.slicer_ids.specs.declared.ids.ClassId.{ClassId}
 use Rattle.slicer_ids.specs.declared.ids.SiteId.{SiteId}
-use Rattle.slicer_ids.specs.declared.ids.FieldId.{FieldId}
-use Rattle.slicer_ids.specs.declared.ids.CallId.{CallId}
 use Rattle.dep_form.specs.declared.rules.Var.{Var}
 use Rattle.dep_form.specs.declared.rules.Rule.{Rule}
-use Rattle.dep_form.specs.declared.rules.Rule.TheVariants.{Enter, Alloc, Hold, Copy, Load, Store, Direct, Virtual, OutsideDirect}
+use Rattle.dep_form.specs.declared.rules.Rule.TheVariants.{Enter, Alloc, Hold, Copy, Load, Store, Direct}
 use Rattle.dep_form.specs.declared.rules.Constraint.{Constraint}
 use Rattle.dep_form.specs.declared.rules.MethodVars.{MethodVars}
 use Rattle.dep_form.specs.declared.rules.SiteInfo.{SiteInfo}
@@ -20,9 +15,10 @@ use Rattle.dep_form.specs.declared.call_site.CallSite.{CallSite}
 use Rattle.dep_form.specs.declared.system.System.{System}
 use Rattle.dep_form.specs.Within.{Counts, IsWithinSystem, IsWithinConstraint, IsWithinCall, IsWithinMethod, IsWithinSpot, IsVar, IfPlace, IfMethod}
 use Rattle.dep_form.specs.declared.rules.Touch.{Touch}
-use Rattle.dep_form.specs.PointsTo.{Fact, Reached, Has, Cell, Calls, OutsideAt}
+use Rattle.dep_form.specs.PointsTo.{Reached, Has, Cell}
 use Rattle.dep_form.specs.Constraints.{SystemFact, SystemFollows, SystemHolds, InForce, elements_field, enter, alloc, hold, copy, load, store, direct_calls, direct_enters, direct_receives, virtual_calls, virtual_enters, virtual_receives, virtual_outside, outside_static, outside_special, passes, answers, throws, fresh, gives, writes}
-use Rattle.dep_form.proofs.Closed.{Contains-cons_cases, all_in}
+use Rattle.slicer_ids.proofs.Ordered.{Contains-cons_cases}
+use Rattle.dep_form.proofs.Closed.{all_in}
 
 abbrev pub root : MethodId
 root = record { 0 = 1 }

@@ -1,6 +1,6 @@
 -- The system is that of the least program.
-use Rattle.std.proofs.Common.{◌≡◌, ◌<◌, ◌≤◌, ◌+◌, ◌⊎◌, ℕ, zero, suc, Bool, true, false, List, [], ◌∷◌, length, get_or, Option, Some, None, Contains, refl, sym, subst, ap, ◌∙◌, inl, inr, arith}
-use Rattle.std.specs.Prelude.{slice_get, codes, All, ◌↔◌}
+use Rattle.std.proofs.Common.{◌≡◌, ◌<◌, ◌⊎◌, ℕ, zero, suc, true, List, [], ◌∷◌, get_or, Some, Contains, refl, sym, subst, ap, ◌∙◌, inl, inr, arith}
+use Rattle.std.specs.Prelude.{slice_get, codes}
 use Rattle.std.proofs.lemmas.Bool.{false≢true, cases_eq}
 use Rattle.std.proofs.lemmas.Option.{same_Some, slice_get_within}
 use Rattle.std.proofs.lemmas.List.Elements.{All-cons}
@@ -20,19 +20,17 @@ use Rattle.class_form.specs.declared.types.BaseType.TheVariants.{Class as OfClas
 use Rattle.dep_form.specs.declared.rules.Var.{Var}
 use Rattle.dep_form.specs.declared.rules.MethodVars.{MethodVars}
 use Rattle.dep_form.specs.declared.rules.SiteInfo.{SiteInfo}
-use Rattle.dep_form.specs.declared.call_site.CallSite.{CallSite}
-use Rattle.dep_form.specs.PointsTo.{Fact, Reached, Has, Cell, Calls, OutsideAt}
-use Rattle.dep_form.specs.Constraints.{SystemFact, SystemHolds, IsSite, IsCallSite, IsMethodVars, elements_field, length_field, state_field}
-use Rattle.program_form.specs.Programs.{Program}
+use Rattle.dep_form.specs.PointsTo.{Reached, Has, Cell, Calls, OutsideAt}
+use Rattle.dep_form.specs.Constraints.{SystemFact, SystemHolds, IsSite, elements_field}
 use Rattle.program_form.specs.Statements.{HasOpcode}
 use Rattle.program_form.specs.Sites.{Site, Made, OfRoot, HasType, SiteBefore, StandsAt, IsArraySite, IsObjectOf, of_arguments, of_argument}
-use Rattle.program_form.specs.Facts.{Variable, ValueOf, ArgumentOf, ResultOf, ThrownBy, CaughtAt, ExceptionOf, StaticField, StaticNamed, FieldName, Named, Elements, Length, State, ProgramFact, Holds}
-use Rattle.program_form.specs.Effects.{Location, IsStatement, Defines, field, element, static, array_length, dimension_length, dimension_elements, outside, Uses, length_of}
-use Rattle.program_form.specs.Systems.{IsSystemOf, SiteNumber, VariableNumber, of_value, of_argument as of_formal, of_result, of_thrown, of_caught, of_exception, of_field, of_foreign, Counterpart, reached, has, cell, calls, static_outside, outside as outside_at, CallNumber, FieldNumber, Touches}
-use Rattle.program_form.specs.Tiny.{tiny_program, tiny_method, tiny_class}
-use Rattle.program_form.proofs.Tiny.{never, returns_only, class_place, is_main, typed, strings, string, known, Known, reached_holds, given_holds, elements_hold}
-use Rattle.program_form.proofs.TinySystem.{tiny_system, main, argument, array_site, string_site, main_vars, array_info, string_info, SystemKnown, system_known, system_reached, system_given, system_elements, no_call, all_none}
-use Rattle.program_form.proofs.Ordered.{one_ordered}
+use Rattle.program_form.specs.Facts.{Variable, ArgumentOf, FieldName, Named, Elements, Length, State, ProgramFact, Holds}
+use Rattle.program_form.specs.Effects.{Location, Defines, field, element, static, array_length, dimension_length, dimension_elements, outside, Uses, length_of}
+use Rattle.program_form.specs.Systems.{IsSystemOf, SiteNumber, VariableNumber, of_value, of_argument as of_formal, of_result, of_thrown, of_caught, of_exception, of_field, of_foreign, Counterpart, reached, has, cell, calls, static_outside, outside as outside_at, CallNumber, FieldNumber}
+use Rattle.program_form.specs.Tiny.{tiny_program, tiny_method}
+use Rattle.program_form.proofs.Tiny.{never, class_place, is_main, typed, strings, string, known, Known, reached_holds, given_holds, elements_hold}
+use Rattle.program_form.proofs.TinySystem.{tiny_system, main, argument, array_site, string_site, main_vars, array_info, string_info, system_known, system_reached, system_given, system_elements, no_call, all_none}
+use Rattle.slicer_ids.proofs.Ordered.{one_ordered}
 
 abbrev IsSiteOf : Site → Type 0
 IsSiteOf g = (t : FieldType) × HasType tiny_program g t

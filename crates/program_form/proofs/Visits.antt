@@ -1,16 +1,15 @@
 -- A search visits one list of classes, and has one answer.
-use Rattle.std.proofs.Common.{◌≡◌, ◌<◌, ℕ, List, [], ◌∷◌, ◌++◌, length, get_or, Option, Some, None, refl, sym, subst, ap, ◌∙◌, inl, inr, arith}
+use Rattle.std.proofs.Common.{◌≡◌, ◌<◌, ℕ, List, [], ◌∷◌, get_or, Option, Some, None, refl, sym, subst, ap, ◌∙◌, inl, inr, arith}
 use Rattle.std.specs.Prelude.{slice_get}
-use Rattle.std.specs.declared.cmp.Ordering.TheVariants.{Less, Equal}
+use Rattle.std.specs.declared.cmp.Ordering.TheVariants.{Equal}
 use Rattle.std.specs.Ordering.{nat_cmp}
 use Rattle.std.specs.Cmp.Lexicographic.{slice_cmp}
 use Rattle.std.proofs.lemmas.Bool.{cases_lt}
 use Rattle.std.proofs.lemmas.Cmp.{nat_list_cmp_total, tied_itself}
 use Rattle.std.proofs.lemmas.Option.{same_Some, slice_get_within, get_or_from_slice_get}
 use Rattle.slicer_ids.specs.Order.{BytesBefore}
-use Rattle.class_form.specs.Pools.{MemberKey}
 use Rattle.class_form.specs.Classes.{class_name, super_name, interface_names, IsClass, IsNamed, AreInOrder, Declared}
-use Rattle.class_form.specs.Resolution.{FieldVisits, absent, outside, visits, FieldVisitsEach, none, each, Chain, top, beyond, up, InterfaceVisits, no_name, unknown, interface, InterfaceVisitsEach, no_more, then_more, InterfacesOf, of_none, of_class, FirstIn, nowhere, here, later, DeclaresField, DeclaresMethod, DeclaresInstance, FindsField, FindsMethod, Selects}
+use Rattle.class_form.specs.Resolution.{FieldVisits, absent, outside, visits, FieldVisitsEach, none, each, Chain, top, beyond, up, InterfaceVisits, no_name, unknown, interface, InterfaceVisitsEach, no_more, then_more, InterfacesOf, of_none, of_class, FirstIn, nowhere, here, later}
 use Rattle.class_form.specs.declared.class_file.ClassFile.{ClassFile}
 
 not_before_itself : (n : List ℕ) → BytesBefore n n → ⊥

@@ -3,19 +3,14 @@ use Rattle.std.proofs.Common.{◌≡◌, ◌<◌, ◌≤◌, ℕ, zero, suc, Lis
 use Rattle.slicer_ids.specs.declared.ids.MethodId.{MethodId}
 use Rattle.class_form.specs.Classes.{Declared}
 use Rattle.class_form.specs.declared.pool.Pool.{Pool}
-use Rattle.class_form.specs.declared.pool.Constant.{Constant}
 use Rattle.class_form.specs.declared.pool.Constant.TheVariants.{Utf8, Class}
 use Rattle.class_form.specs.declared.class_file.ClassFile.{ClassFile}
 use Rattle.class_form.specs.declared.class_file.Member.{Member}
-use Rattle.class_form.specs.declared.class_file.Attribute.{Attribute}
-use Rattle.class_form.specs.declared.class_file.Content.{Content}
 use Rattle.class_form.specs.declared.class_file.Content.TheVariants.{Code}
 use Rattle.class_form.specs.declared.class_file.CodeBody.{CodeBody}
 use Rattle.class_form.specs.declared.body.Body.{Body}
 use Rattle.class_form.specs.declared.body.Instr.{Instr}
-use Rattle.class_form.specs.declared.body.Shape.{Shape}
 use Rattle.class_form.specs.declared.body.Point.{Point}
-use Rattle.class_form.specs.declared.reach.Reach.{Reach}
 use Rattle.class_form.specs.declared.body.Def.TheVariants.{Formal}
 use Rattle.dep_form.specs.declared.rules.Entry.{Entry}
 use Rattle.program_form.specs.Programs.{Program}

@@ -5,8 +5,8 @@ use Rattle.std.proofs.lemmas.Option.{slice_get_within, slice_get-get_or, same_So
 use Rattle.class_form.specs.declared.body.Point.{Point}
 use Rattle.class_form.specs.declared.body.Def.{Def}
 use Rattle.class_form.specs.declared.body.Def.TheVariants.{Formal, Value, Caught}
-use Rattle.worklist.specs.Growth.{Grows, FromOne}
-use Rattle.worklist.proofs.Growing.{FromBelow, Grows-same, Grows-kept}
+use Rattle.worklists.specs.Growth.{Grows, FromOne}
+use Rattle.worklists.proofs.Growing.{FromBelow, Grows-same, Grows-kept}
 use Rattle.reaching_defs.specs.declared.starts.Start.{Start}
 use Rattle.class_form.specs.declared.body.Shape.{Shape}
 use Rattle.class_form.specs.Reaching.{Begins}

@@ -6,8 +6,8 @@ use Rattle.std.proofs.lemmas.Bool.{cases_lt}
 use Rattle.std.proofs.lemmas.Nat.{mod_below}
 use Rattle.class_form.specs.declared.body.Point.{Point}
 use Rattle.class_form.specs.Reaching.{Place, IsPoint, Keeps, Carries}
-use Rattle.worklist.specs.Growth.{Grows, FromOne}
-use Rattle.worklist.proofs.Growing.{Grows-same, Grows-none, Grows-then}
+use Rattle.worklists.specs.Growth.{Grows, FromOne}
+use Rattle.worklists.proofs.Growing.{Grows-same, Grows-none, Grows-then}
 use Rattle.reaching_defs.specs.declared.frame.Frame.{Frame}
 use Rattle.reaching_defs.specs.Frames.{place, count, place_in, IsIn, IsNumberOf, IsFrame, CarriesOn, IsKept, IsMoved, GoesOn, IsThrown, Steps}
 use Rattle.reaching_defs.proofs.Places.{one_point, pc_of, there_at}

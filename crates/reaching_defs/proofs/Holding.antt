@@ -9,7 +9,7 @@ use Rattle.class_form.specs.declared.body.Shape.{Shape}
 use Rattle.class_form.specs.declared.body.Def.{Def}
 use Rattle.class_form.specs.Reaching.{IsFlow, Carries, Begins, HoldsAt}
 use Rattle.class_form.specs.Reaches.{DefBefore}
-use Rattle.worklist.specs.Growth.{Grows, FromOne}
+use Rattle.worklists.specs.Growth.{Grows, FromOne}
 use Rattle.reaching_defs.specs.declared.spread.Fact.{Fact}
 use Rattle.reaching_defs.specs.declared.starts.Start.{Start}
 use Rattle.reaching_defs.specs.Points.{IsIndex}

@@ -7,8 +7,8 @@ use Rattle.std.proofs.lemmas.Nat.{div-mul-add, mod-mul-add, mul-add-lt, div-add-
 use Rattle.std.proofs.lemmas.Option.{slice_get_within, slice_get-get_or, get_or_from_slice_get, same_Some}
 use Rattle.class_form.specs.declared.body.Point.{Point}
 use Rattle.class_form.specs.Reaching.{Place, IsPoint}
-use Rattle.worklist.specs.Growth.{Grows}
-use Rattle.worklist.proofs.Growing.{Grows-same}
+use Rattle.worklists.specs.Growth.{Grows}
+use Rattle.worklists.proofs.Growing.{Grows-same}
 use Rattle.reaching_defs.specs.declared.frame.Frame.{Frame}
 use Rattle.reaching_defs.specs.Points.{IsIndex}
 use Rattle.reaching_defs.specs.Frames.{place, pc_at, count, place_in, IsIn, IsNumberOf}

@@ -7,9 +7,9 @@ use Rattle.class_form.specs.declared.body.Shape.{Shape}
 use Rattle.class_form.specs.declared.body.Def.{Def}
 use Rattle.class_form.specs.declared.body.Def.TheVariants.{Formal, Value, Caught}
 use Rattle.class_form.specs.Reaching.{Place, IsPoint, IsFlow, IsSlotOf, Carries, Begins}
-use Rattle.worklist.specs.Growth.{Grows, FromOne}
-use Rattle.worklist.proofs.Growing.{Grows-same}
-use Rattle.worklist.proofs.Closing.{Closing, taken_all}
+use Rattle.worklists.specs.Growth.{Grows, FromOne}
+use Rattle.worklists.proofs.Growing.{Grows-same}
+use Rattle.worklists.proofs.ClosingOne.{Closing, taken_all}
 use Rattle.reaching_defs.specs.declared.frame.Frame.{Frame}
 use Rattle.reaching_defs.specs.Frames.{place, count, place_in, IsIn, IsNumberOf, IsFrame, Steps, IsBegun, Comes}
 use Rattle.reaching_defs.proofs.Places.{one_point, number, number-lt, number_is}

@@ -8,8 +8,8 @@ use Rattle.class_form.specs.declared.body.Shape.{Shape}
 use Rattle.class_form.specs.declared.body.Def.{Def}
 use Rattle.class_form.specs.declared.body.Def.TheVariants.{Formal, Value, Caught}
 use Rattle.class_form.specs.Reaching.{Place, IsFlow, Carries, Begins}
-use Rattle.worklist.specs.Growth.{Grows, FromOne}
-use Rattle.worklist.proofs.Growing.{Grows-same, Grows-none}
+use Rattle.worklists.specs.Growth.{Grows, FromOne}
+use Rattle.worklists.proofs.Growing.{Grows-same, Grows-none}
 use Rattle.reaching_defs.specs.declared.frame.Frame.{Frame}
 use Rattle.reaching_defs.specs.declared.spread.Fact.{Fact}
 use Rattle.reaching_defs.specs.Points.{IsIndex}

@@ -2,7 +2,7 @@
 ghost use Rattle.std.specs.Prelude.{◌≡◌, ◌<◌, ◌≤◌, ◌*◌, ℕ, [], length, All, IfOk, OnOk};
 ghost use Rattle.class_form.specs.Reaching.{IsFlow};
 ghost use Rattle.class_form.specs.Reaches.{IsReachOf};
-ghost use Rattle.worklist.specs.Growth.{Grows, FromOne};
+ghost use Rattle.worklists.specs.Growth.{Grows, FromOne};
 ghost use Rattle.worklist.specs.Worklists.{IsWorklist};
 ghost use Rattle.reaching_defs.specs.Points.{IsIndex};
 ghost use Rattle.reaching_defs.specs.Starts.{IsStart};

@@ -2,7 +2,7 @@
 ghost use Rattle.std.specs.Prelude.{◌≡◌, ◌<◌, ◌≤◌, ◌+◌, ◌↔◌, ◌⊎◌, ℕ, true, IsTrue, List, length, Contains, OnOk};
 ghost use Rattle.class_form.specs.declared.body.Point.{Point};
 ghost use Rattle.class_form.specs.Reaching.{IsPoint, Keeps};
-ghost use Rattle.worklist.specs.Growth.{Grows, FromOne};
+ghost use Rattle.worklists.specs.Growth.{Grows, FromOne};
 ghost use Rattle.worklist.specs.Worklists.{IsWorklist};
 ghost use Rattle.reaching_defs.specs.Frames.{place, count, IsIn, IsNumberOf, IsFrame, LeavesSlot, IsKept, IsMoved, GoesOn, IsThrown, Steps};
 

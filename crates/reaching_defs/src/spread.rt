@@ -3,7 +3,7 @@ ghost use Rattle.std.specs.Prelude.{◌≡◌, ◌<◌, ◌≤◌, ◌+◌, ◌*
 ghost use Rattle.class_form.specs.declared.body.Point.{Point};
 ghost use Rattle.class_form.specs.declared.body.Def.TheVariants.{Formal, Value, Caught};
 ghost use Rattle.class_form.specs.Reaching.{Place, IsPoint, IsFlow, IsSlotOf};
-ghost use Rattle.worklist.specs.Growth.{Grows, FromOne};
+ghost use Rattle.worklists.specs.Growth.{Grows, FromOne};
 ghost use Rattle.worklist.specs.Worklists.{IsWorklist};
 ghost use Rattle.reaching_defs.specs.Points.{IsIndex};
 ghost use Rattle.reaching_defs.specs.Starts.{IsStart};

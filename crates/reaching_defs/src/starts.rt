@@ -1,7 +1,7 @@
 // Where definitions first stand: arguments, results and caught exceptions.
 ghost use Rattle.std.specs.Prelude.{◌≡◌, ◌<◌, ◌≤◌, ◌+◌, ℕ, List, length, sum, Contains, All, OnOk, IfOk};
 ghost use Rattle.class_form.specs.declared.body.Def.TheVariants.{Formal, Value, Caught};
-ghost use Rattle.worklist.specs.Growth.{Grows, FromOne};
+ghost use Rattle.worklists.specs.Growth.{Grows, FromOne};
 ghost use Rattle.worklist.specs.Worklists.{IsWorklist};
 ghost use Rattle.class_form.specs.Reaching.{IsFlow, Begins};
 ghost use Rattle.class_form.specs.declared.body.Def.{Def};

@@ -40,7 +40,7 @@ pub enum Command {
 /// Why a line is refused. The first that applies, in this order, is the answer.
 #[derive(Clone, Copy, PartialEq, Eq, Debug, Drop, Error)]
 pub enum LineError {
-    #[error("out of memory")]
+    #[error("no memory")]
     NoMemory,
     #[error("line too long")]
     TooLong,

@@ -11,3 +11,6 @@ pub mod parse;
 #[cfg(test)]
 mod tests;
 mod words;
+
+pub use command::{Command, LineError, Place};
+pub use parse::{LINE_BYTES, parse_line};

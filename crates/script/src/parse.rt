@@ -16,7 +16,8 @@ use std::alloc::Global;
 /// How many bytes a line may have, without its end.
 pub const LINE_BYTES: usize = 4096;
 
-/// What a line of a script says. The line comes without its end (a line feed, or a carriage return and a line feed).
+/// What a line of a script says. The line comes without its end: a line feed
+/// or the end of the script, and one carriage return before it.
 ///
 /// Words are separated by spaces and tabs. In a word, `\` and two lower-case hexadecimal digits stand for that byte,
 /// and any other byte for itself; in the word of a class, each `.` that results stands for `/`. A number is one to

@@ -32,7 +32,7 @@ one_list P x (y ∷ z ∷ ws) one all =
 head_is : {A : Type 0} (x y : A) → ◌≡◌ {A = List A} (x ∷ []) (y ∷ []) → x ≡ y
 head_is x y e = cc
 
-entry_is : (a b : List ℕ) → ◌≡◌ {A = Option Entry} (Some (File a)) (Some (File b)) → a ≡ b
+pub entry_is : (a b : List ℕ) → ◌≡◌ {A = Option Entry} (Some (File a)) (Some (File b)) → a ≡ b
 entry_is a b e = cc
 
 -- the name of the one file of a small folder

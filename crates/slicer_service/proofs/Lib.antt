@@ -3,3 +3,7 @@ pub mod Requests
 pub mod Outputs
 pub mod Lines
 pub mod RunEndings
+pub mod OneAsking
+pub mod OneWriting
+pub mod OneRun
+pub mod Sayings

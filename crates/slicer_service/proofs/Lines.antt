@@ -6,7 +6,7 @@ use Rattle.slicer_service.specs.Texts.{line}
 use Rattle.slicer_service.specs.declared.output.Outcome.{Outcome}
 use Rattle.slicer_service.specs.declared.output.Outcome.TheVariants.{Done, Fault, NoMemory}
 use Rattle.slicer_service.specs.declared.output.Delivered.{Delivered}
-use Rattle.slicer_service.specs.Outputs.{status}
+use Rattle.slicer_service.specs.Outputs.{status_of}
 
 -- a line with a number of one digit
 pub counted : (before : List ℕ) (n : ℕ) → n < 10 → line (before ++ (48 + n) ∷ [] ++ codes " replies") ≡ line (before ++ decimal n ++ codes " replies")
@@ -18,13 +18,13 @@ counted_zero before n none = counted before 0 (omega arith) ∙ ap (λ (k : ℕ)
 pub counted_one : (before : List ℕ) (n : ℕ) → n ≡ 1 → line (before ++ 49 ∷ [] ++ codes " replies") ≡ line (before ++ decimal n ++ codes " replies")
 counted_one before n one = counted before 1 (omega arith) ∙ ap (λ (k : ℕ). line (before ++ decimal k ++ codes " replies")) (sym one)
 
-fault_of : (o : Outcome) → status o ≡ 5 → (n : ℕ) × (o ≡ Fault n)
+fault_of : (o : Outcome) → status_of o ≡ 5 → (n : ℕ) × (o ≡ Fault n)
 fault_of Done e = absurd (omega arith)
 fault_of (Fault n) e = (n, refl)
 fault_of (NoMemory n) e = absurd (omega arith)
 
 -- status 5 is that of a closed output whose sink failed
-pub fault_delivered : (o : Outcome) (closed : Bool) → status o ≡ 5 → closed ≡ true
+pub fault_delivered : (o : Outcome) (closed : Bool) → status_of o ≡ 5 → closed ≡ true
     → (n : ℕ) × (◌≡◌ {A = Delivered} (record { outcome = o; closed = closed }) (record { outcome = Fault n; closed = true }))
 fault_delivered o closed five shut =
     let f = fault_of o five in

@@ -101,7 +101,7 @@ pub headline_told : (files later : Option Files) (said said_after : Option (List
     → (status ≡ 0) ⊎ (status ≡ 1) ⊎ (status ≡ 3) ⊎ (status ≡ 4) ⊎ (status ≡ 5)
     → (status ≡ 0 → RunsAs files later said said_after folder script 0) → (status ≡ 3 → RunsAs files later said said_after folder script 3)
     → (status ≡ 4 → RunsAs files later said said_after folder script 4)
-    → (status ≡ 5 → ReadFaultEnds files later said said_after source ⊎ WriteFaultEnds files later said said_after folder script sink)
+    → (status ≡ 5 → ReadFaultEnds files later said said_after folder script source ⊎ WriteFaultEnds files later said said_after folder script sink)
     → source ≡ true → sink ≡ true → (status ≡ 1) ⊎ RunsAs files later said said_after folder script status
 headline_told files later said said_after folder script source sink status (inl e) zero three four five p q = inr (rw e (zero e))
 headline_told files later said said_after folder script source sink status (inr (inl e)) zero three four five p q = inl e

@@ -1,16 +1,16 @@
 -- How a run ends, seen from its host.
-use Rattle.std.specs.Prelude.{◌≡◌, ◌⊎◌, ℕ, List, Option, Some, IfSome, Bool, true, false}
-use Rattle.edge_io.specs.Files.{Files, IsFolder}
+use Rattle.std.specs.Prelude.{◌≡◌, ◌⊎◌, ℕ, List, [], ◌++◌, Option, Some, IfSome, Bool, true, false}
+use Rattle.edge_io.specs.Files.{Files, IsFile}
 use Rattle.edge_io.specs.Reads.{appended}
 use Rattle.small_class.specs.declared.class.SmallClass.{SmallClass}
 use Rattle.straight_code.specs.declared.step.Step.{Step}
 use Rattle.slicer_service.specs.declared.output.Outcome.{Outcome}
 use Rattle.slicer_service.specs.declared.output.Outcome.TheVariants.{Done, Fault, NoMemory}
 use Rattle.slicer_service.specs.declared.output.Delivered.{Delivered}
-use Rattle.slicer_service.specs.Small.{AreReplies}
-use Rattle.slicer_service.specs.Outputs.{HasOutput}
+use Rattle.slicer_service.specs.Small.{AreReplies, IsSmallFolder}
+use Rattle.slicer_service.specs.Outputs.{HasOutput, IsNoFault, status_of}
 use Rattle.slicer_service.specs.Runs.{IsAsked, RunOf, output_of}
-use Rattle.slicer_service.specs.Texts.{done_line, read_fault_line, write_fault_line, no_memory_line}
+use Rattle.slicer_service.specs.Texts.{done_line, read_fault_line, write_fault_line, no_memory_line, usage_line, not_built_line, host_fault_line}
 
 -- the run over told files answers, says and leaves what its definition gives
 abbrev pub RunsAs : Option Files → Option Files → Option (List ℕ) → Option (List ℕ) → List ℕ → List ℕ → ℕ → Type 0
@@ -31,6 +31,10 @@ pub record Delivers (m : Files) (folder script : List ℕ) (d : Delivered) (afte
   pub answered : IsAnswered m folder script replies
   pub output : HasOutput m (output_of script) replies d after
 
+-- the folder is small, and the script is a file
+abbrev pub IsReady : Files → List ℕ → List ℕ → Type 0
+IsReady m folder script = (c : SmallClass) × (steps : List Step) × IsSmallFolder m folder c steps × IsFile m script
+
 -- the line on a session that ended so
 abbrev pub summary_line : Outcome → List ℕ
 summary_line Done = done_line 2
@@ -42,9 +46,39 @@ abbrev pub KeepsFiles : Option Files → Option Files → List ℕ → List ℕ 
 KeepsFiles files files_after folder script =
     IfSome files (λ m. (after : Files) × (files_after ≡ Some after) × ((after ≡ m) ⊎ ((d : Delivered) × Delivers m folder script d after)))
 
--- the script's source failed, and was not steady: nothing was made
-pub record ReadFaultEnds (files files_after : Option Files) (said said_after : Option (List ℕ)) (steady : Bool) : Type 0 where
+-- the session came to make its output, and this became of it
+pub record Ended (files files_after : Option Files) (folder script : List ℕ) (steady : Bool) (d : Delivered) : Type 0 where
+  pub sure : steady ≡ true → IsNoFault d.outcome
+  pub made : IfSome files (λ m. (after : Files) × (files_after ≡ Some after) × Delivers m folder script d after)
+
+-- what a run that failed by a call, or for want of memory, has said
+abbrev pub SaysFault : ℕ → List ℕ → Type 0
+SaysFault status text = ((status ≡ 1) × (text ≡ [])) ⊎ ((status ≡ 3) × ((text ≡ []) ⊎ (text ≡ host_fault_line)))
+
+-- what a run has said that made no output
+abbrev pub SaysBefore : ℕ → List ℕ → Type 0
+SaysBefore status text = SaysFault status text ⊎ ((status ≡ 4) × (text ≡ not_built_line)) ⊎ ((status ≡ 5) × (text ≡ read_fault_line 0))
+
+-- what a run has said whose output ended so
+abbrev pub SaysAfter : Delivered → ℕ → List ℕ → Type 0
+SaysAfter d status text =
+    SaysFault status text
+    ⊎ ((d.closed ≡ true) × (status ≡ status_of d.outcome) × (text ≡ summary_line d.outcome))
+    ⊎ ((status ≡ 3) × ((text ≡ summary_line d.outcome) ⊎ (text ≡ summary_line d.outcome ++ host_fault_line)))
+
+-- what a run has said: a line on the session only where it came to its output, and then how that ended
+abbrev pub Says : Option Files → Option Files → List ℕ → List ℕ → Bool → ℕ → List ℕ → Type 0
+Says files files_after folder script steady status text =
+    SaysBefore status text ⊎ ((d : Delivered) × Ended files files_after folder script steady d × SaysAfter d status text)
+
+-- what a run has said whose words are not taken
+abbrev pub SaysUsage : ℕ → List ℕ → Type 0
+SaysUsage status text = ((status ≡ 2) × (text ≡ usage_line)) ⊎ SaysFault status text
+
+-- the script's source failed, and was not steady, after the folder was read: nothing was made
+pub record ReadFaultEnds (files files_after : Option Files) (said said_after : Option (List ℕ)) (folder script : List ℕ) (steady : Bool) : Type 0 where
   pub unsteady : steady ≡ true → ⊥
+  pub place : IfSome files (λ m. IsReady m folder script)
   pub kept : files_after ≡ files
   pub line : said_after ≡ appended (read_fault_line 0) said
 

@@ -36,10 +36,10 @@ IsFew (Fault n) = n ≤ 1
 IsFew (NoMemory n) = n ≤ 1
 
 -- the status of a run whose session ended so
-abbrev pub status : Outcome → ℕ
-status Done = 0
-status (Fault n) = 5
-status (NoMemory n) = 1
+abbrev pub status_of : Outcome → ℕ
+status_of Done = 0
+status_of (Fault n) = 5
+status_of (NoMemory n) = 1
 
 abbrev pub outcome_of : SinkError → ℕ → Outcome
 outcome_of refusal.NoMemory whole = NoMemory whole

@@ -1,10 +1,10 @@
 // What is said at the end of a run, and its status.
-ghost use Rattle.std.specs.Prelude.{◌≡◌, ◌≢◌, ◌≤◌, ◌⊎◌, true, false, ℕ};
+ghost use Rattle.std.specs.Prelude.{◌≡◌, ◌≢◌, ◌≤◌, ◌⊎◌, true, false, ℕ, List};
 ghost use Rattle.edge_io.specs.Faults.{Rose};
 ghost use Rattle.edge_io.specs.Reads.{appended};
 ghost use Rattle.slicer_service.specs.Hosts.{Goes};
-ghost use Rattle.slicer_service.specs.Endings.{summary_line};
-ghost use Rattle.slicer_service.specs.Outputs.{IsFew, status};
+ghost use Rattle.slicer_service.specs.Endings.{summary_line, SaysFault, SaysBefore, SaysAfter};
+ghost use Rattle.slicer_service.specs.Outputs.{IsFew, status_of};
 ghost use Rattle.slicer_service.specs.Texts.{host_fault_line, not_built_line, read_fault_line, done_line, write_fault_line, no_memory_line};
 
 use crate::output::{Delivered, Outcome};
@@ -46,6 +46,7 @@ fn say<H: Host>(host: &mut H, line: &[u8]) -> Said
 fn host_fault<H: Host>(host: &mut H) -> u8
     ensures kinds { (result ≡ 3) ⊎ (result ≡ 1) }
     ensures said { result ≡ 3 → H.steady host.old ≡ true → H.said host.new ≡ appended host_fault_line (H.said host.old) }
+    ensures says { (text : List ℕ) × (H.said host.new ≡ appended text (H.said host.old)) × SaysFault result text }
     ensures files { H.files host.new ≡ H.files host.old }
     ensures goes { Goes H.faults H.steady H.source_steady H.sink_steady host.old host.new }
 {
@@ -60,6 +61,7 @@ pub fn refuse<H: Host>(host: &mut H, line: &[u8], status: u8) -> u8
     requires { (status ≢ 1) × (status ≢ 3) }
     ensures kinds { (result ≡ status) ⊎ (result ≡ 1) ⊎ (result ≡ 3) }
     ensures said { result ≡ status → H.said host.new ≡ appended line.now (H.said host.old) }
+    ensures says { (text : List ℕ) × (H.said host.new ≡ appended text (H.said host.old)) × (((result ≡ status) × (text ≡ line.now)) ⊎ SaysFault result text) }
     ensures fault { result ≡ 3 → Rose (H.faults host.old) (H.faults host.new) }
     ensures cause { result ≡ 3 → H.steady host.old ≡ true → ⊥ }
     ensures files { H.files host.new ≡ H.files host.old }
@@ -72,6 +74,26 @@ pub fn refuse<H: Host>(host: &mut H, line: &[u8], status: u8) -> u8
     }
 }
 
+// Says that the script's source failed; the status. That line sums the session up, so a failed call there comes before want of memory.
+fn unread<H: Host>(host: &mut H) -> u8
+    ensures kinds { (result ≡ 5) ⊎ (result ≡ 1) ⊎ (result ≡ 3) }
+    ensures said { result ≡ 5 → H.said host.new ≡ appended (read_fault_line 0) (H.said host.old) }
+    ensures says { (text : List ℕ) × (H.said host.new ≡ appended text (H.said host.old)) × (((result ≡ 5) × (text ≡ read_fault_line 0)) ⊎ SaysFault result text) }
+    ensures fault { result ≡ 3 → Rose (H.faults host.old) (H.faults host.new) }
+    ensures cause { result ≡ 3 → H.steady host.old ≡ true → ⊥ }
+    ensures files { H.files host.new ≡ H.files host.old }
+    ensures goes { Goes H.faults H.steady H.source_steady H.sink_steady host.old host.new }
+{
+    match say(host, READ_FAULT) {
+        Said::Yes => 5,
+        Said::NoMemory => 1,
+        Said::Fault => {
+            let _ = say(host, HOST_FAULT);
+            3
+        }
+    }
+}
+
 /// The end of a run that made no output.
 pub fn stopped<H: Host>(host: &mut H, stop: Stop) -> u8
     ensures kinds { (result ≡ 1) ⊎ (result ≡ 3) ⊎ (result ≡ 4) ⊎ (result ≡ 5) }
@@ -79,6 +101,7 @@ pub fn stopped<H: Host>(host: &mut H, stop: Stop) -> u8
     ensures unread { result ≡ 5 → (stop ≡ Stop.Read) × (H.said host.new ≡ appended (read_fault_line 0) (H.said host.old)) }
     ensures fault { result ≡ 3 → (stop ≡ Stop.Host) ⊎ Rose (H.faults host.old) (H.faults host.new) }
     ensures cause { result ≡ 3 → H.steady host.old ≡ true → (stop ≡ Stop.Host) × (H.said host.new ≡ appended host_fault_line (H.said host.old)) }
+    ensures says { (text : List ℕ) × (H.said host.new ≡ appended text (H.said host.old)) × SaysBefore result text }
     ensures files { H.files host.new ≡ H.files host.old }
     ensures goes { Goes H.faults H.steady H.source_steady H.sink_steady host.old host.new }
 {
@@ -86,7 +109,7 @@ pub fn stopped<H: Host>(host: &mut H, stop: Stop) -> u8
         Stop::NoMemory => 1,
         Stop::Host => host_fault(host),
         Stop::NotBuilt => refuse(host, NOT_BUILT, 4),
-        Stop::Read => refuse(host, READ_FAULT, 5),
+        Stop::Read => unread(host),
     }
 }
 
@@ -98,6 +121,7 @@ pub fn concluded<H: Host>(host: &mut H, delivered: Delivered) -> u8
     ensures unwritten { result ≡ 5 → (n : ℕ) × (delivered ≡ record { outcome = Outcome.Fault n; closed = true }) × (H.said host.new ≡ appended (write_fault_line n) (H.said host.old)) }
     ensures fault { result ≡ 3 → (delivered.closed ≡ false) ⊎ Rose (H.faults host.old) (H.faults host.new) }
     ensures cause { result ≡ 3 → H.steady host.old ≡ true → delivered.closed ≡ false }
+    ensures says { (text : List ℕ) × (H.said host.new ≡ appended text (H.said host.old)) × SaysAfter delivered result text }
     ensures files { H.files host.new ≡ H.files host.old }
     ensures goes { Goes H.faults H.steady H.source_steady H.sink_steady host.old host.new }
 {
@@ -118,7 +142,7 @@ pub fn concluded<H: Host>(host: &mut H, delivered: Delivered) -> u8
 
 // The status of a run whose line was said.
 fn status_of(outcome: Outcome) -> u8
-    ensures { result ≡ status outcome }
+    ensures { result ≡ status_of outcome }
 {
     match outcome {
         Outcome::Done => 0,
@@ -131,6 +155,7 @@ fn status_of(outcome: Outcome) -> u8
 fn say_summary<H: Host>(host: &mut H, outcome: Outcome) -> Said
     requires { IsFew outcome }
     ensures yes { result ≡ Said.Yes → H.said host.new ≡ appended (summary_line outcome) (H.said host.old) }
+    ensures other { result ≢ Said.Yes → H.said host.new ≡ H.said host.old }
     ensures files { H.files host.new ≡ H.files host.old }
     ensures fault { result ≡ Said.Fault → Rose (H.faults host.old) (H.faults host.new) }
     ensures sure { H.steady host.old ≡ true → result ≢ Said.Fault }

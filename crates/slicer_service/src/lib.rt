@@ -4,6 +4,7 @@
 mod answer;
 mod ending;
 mod folder;
+pub mod laws;
 mod output;
 mod request;
 mod running;

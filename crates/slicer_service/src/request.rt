@@ -29,6 +29,7 @@ pub fn request<H: Host>(
     ensures fault { result ≡ Err Stop.Host → Rose (H.faults host.old) (H.faults host.new) }
     ensures cause { result ≡ Err Stop.Host → H.steady host.old ≡ true → IfSome (H.files host.old) (λ m. IsFile m script.now → ⊥) }
     ensures unread { result ≡ Err Stop.Read → H.source_steady host.old script.now ≡ true → ⊥ }
+    ensures read { result ≡ Err Stop.Read → IfSome (H.files host.old) (λ m. IsFile m script.now) }
     ensures goes { Goes H.faults H.steady H.source_steady H.sink_steady host.old host.new }
     ensures keeps { Keeps H.files H.said host.old host.new }
 {

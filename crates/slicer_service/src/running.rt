@@ -1,9 +1,10 @@
 // A run of the program.
-ghost use Rattle.std.specs.Prelude.{◌≡◌, ◌⊎◌, ◌≤◌, ℕ, List, true, Some, None, IsSomeAnd, MatchOption, map, string_bytes};
+ghost use Rattle.std.specs.Prelude.{◌≡◌, ◌⊎◌, ◌≤◌, ℕ, List, true, Some, None, IfSome, IsSomeAnd, MatchOption, map, string_bytes};
 ghost use Rattle.edge_io.specs.Faults.{Rose};
+ghost use Rattle.edge_io.specs.Files.{Files};
 ghost use Rattle.edge_io.specs.Reads.{appended};
-ghost use Rattle.slicer_service.specs.Endings.{RunsAs, KeepsFiles, ReadFaultEnds, WriteFaultEnds};
-ghost use Rattle.slicer_service.specs.Runs.{output_of};
+ghost use Rattle.slicer_service.specs.Endings.{RunsAs, KeepsFiles, Says, SaysUsage, ReadFaultEnds, WriteFaultEnds};
+ghost use Rattle.slicer_service.specs.Runs.{RunOf, output_of};
 ghost use Rattle.slicer_service.specs.Texts.{usage_line};
 ghost use Rattle.slicer_service.specs.Words.{taken};
 
@@ -23,6 +24,10 @@ pub fn run<R: Threads + Sync, H: Host>(rt: &R, alloc: Global, words: &[String], 
     ensures headline { (folder script : List ℕ) → taken (map string_bytes words.now) ≡ Some (folder, script)
         → H.steady host.old ≡ true → H.source_steady host.old script ≡ true → H.sink_steady host.old (output_of script) ≡ true
         → (result ≡ 1) ⊎ RunsAs (H.files host.old) (H.files host.new) (H.said host.old) (H.said host.new) folder script result }
+    // Completeness: there it answers the status that the definition gives, or 1; the definition gives no two (`laws::one_run`).
+    ensures complete { (folder script : List ℕ) → taken (map string_bytes words.now) ≡ Some (folder, script)
+        → H.steady host.old ≡ true → H.source_steady host.old script ≡ true → H.sink_steady host.old (output_of script) ≡ true
+        → IfSome (H.files host.old) (λ m. (status : ℕ) (text : List ℕ) (after : Files) → RunOf m folder script status text after → (result ≡ status) ⊎ (result ≡ 1)) }
     // Without these premises: each status but 1 has its cause.
     ensures statuses { result ≤ 5 }
     ensures done { result ≡ 0 → IsSomeAnd (taken (map string_bytes words.now)) (λ p. RunsAs (H.files host.old) (H.files host.new) (H.said host.old) (H.said host.new) p.0 p.1 0) }
@@ -32,8 +37,11 @@ pub fn run<R: Threads + Sync, H: Host>(rt: &R, alloc: Global, words: &[String], 
     ensures host_cause { result ≡ 3 → H.steady host.old ≡ true → IsSomeAnd (taken (map string_bytes words.now)) (λ p. RunsAs (H.files host.old) (H.files host.new) (H.said host.old) (H.said host.new) p.0 p.1 3) }
     ensures refused { result ≡ 4 → IsSomeAnd (taken (map string_bytes words.now)) (λ p. RunsAs (H.files host.old) (H.files host.new) (H.said host.old) (H.said host.new) p.0 p.1 4) }
     ensures ends { result ≡ 5 → IsSomeAnd (taken (map string_bytes words.now)) (λ p.
-        ReadFaultEnds (H.files host.old) (H.files host.new) (H.said host.old) (H.said host.new) (H.source_steady host.old p.1)
+        ReadFaultEnds (H.files host.old) (H.files host.new) (H.said host.old) (H.said host.new) p.0 p.1 (H.source_steady host.old p.1)
         ⊎ WriteFaultEnds (H.files host.old) (H.files host.new) (H.said host.old) (H.said host.new) p.0 p.1 (H.sink_steady host.old (output_of p.1))) }
+    // Every line that is said has its cause too: one on the session only where it came to its output, and then how that ended.
+    ensures says { (text : List ℕ) × (H.said host.new ≡ appended text (H.said host.old)) × MatchOption (taken (map string_bytes words.now)) (SaysUsage result text)
+        (λ p. Says (H.files host.old) (H.files host.new) p.0 p.1 (H.sink_steady host.old (output_of p.1)) result text) }
     // In every run other files keep their contents, and the output has some of the first bytes of the replies, or is as it was.
     ensures files { MatchOption (taken (map string_bytes words.now)) (H.files host.new ≡ H.files host.old) (λ p. KeepsFiles (H.files host.old) (H.files host.new) p.0 p.1) }
 {

@@ -1,8 +1,9 @@
 // One script over one folder.
-ghost use Rattle.std.specs.Prelude.{◌≡◌, ◌⊎◌, ℕ, true, false, IfOk, IfSome, OnErr, Err, Some, string_bytes};
+ghost use Rattle.std.specs.Prelude.{◌≡◌, ◌⊎◌, ℕ, List, true, false, IfOk, IfSome, OnErr, Err, Some, string_bytes};
 ghost use Rattle.edge_io.specs.Faults.{Rose};
 ghost use Rattle.edge_io.specs.Files.{Files};
-ghost use Rattle.slicer_service.specs.Endings.{IsAnswered, Delivers, RunsAs, KeepsFiles, ReadFaultEnds, WriteFaultEnds};
+ghost use Rattle.edge_io.specs.Reads.{appended};
+ghost use Rattle.slicer_service.specs.Endings.{IsAnswered, IsReady, Delivers, RunsAs, Says, KeepsFiles, ReadFaultEnds, WriteFaultEnds};
 ghost use Rattle.slicer_service.specs.Hosts.{Goes, Keeps};
 ghost use Rattle.slicer_service.specs.Outputs.{IsFew, IsNoFault, texts_of};
 ghost use Rattle.slicer_service.specs.Runs.{RunOf, output_of};
@@ -24,8 +25,9 @@ pub fn serve<H: Host>(alloc: Global, folder: &str, script: &str, host: &mut H) -
     ensures refused { result ≡ 4 → RunsAs (H.files host.old) (H.files host.new) (H.said host.old) (H.said host.new) folder.now script.now 4 }
     ensures fault { result ≡ 3 → Rose (H.faults host.old) (H.faults host.new) }
     ensures cause { result ≡ 3 → H.steady host.old ≡ true → RunsAs (H.files host.old) (H.files host.new) (H.said host.old) (H.said host.new) folder.now script.now 3 }
-    ensures ends { result ≡ 5 → ReadFaultEnds (H.files host.old) (H.files host.new) (H.said host.old) (H.said host.new) (H.source_steady host.old script.now)
+    ensures ends { result ≡ 5 → ReadFaultEnds (H.files host.old) (H.files host.new) (H.said host.old) (H.said host.new) folder.now script.now (H.source_steady host.old script.now)
         ⊎ WriteFaultEnds (H.files host.old) (H.files host.new) (H.said host.old) (H.said host.new) folder.now script.now (H.sink_steady host.old (output_of script.now)) }
+    ensures says { (text : List ℕ) × (H.said host.new ≡ appended text (H.said host.old)) × Says (H.files host.old) (H.files host.new) folder.now script.now (H.sink_steady host.old (output_of script.now)) result text }
     ensures files { KeepsFiles (H.files host.old) (H.files host.new) folder.now script.now }
     ensures goes { Goes H.faults H.steady H.source_steady H.sink_steady host.old host.new }
 {
@@ -53,6 +55,7 @@ fn attended<H: Host>(
     ensures fault { result ≡ Err Stop.Host → Rose (H.faults host.old) (H.faults host.new) }
     ensures cause { result ≡ Err Stop.Host → H.steady host.old ≡ true → IfSome (H.files host.old) (λ m. RunOf m folder.now script.now 3 host_fault_line m) }
     ensures unread { result ≡ Err Stop.Read → H.source_steady host.old script.now ≡ true → ⊥ }
+    ensures read { result ≡ Err Stop.Read → IfSome (H.files host.old) (λ m. IsReady m folder.now script.now) }
     ensures goes { Goes H.faults H.steady H.source_steady H.sink_steady host.old host.new }
 {
     let prepared = prepare(alloc, folder, script, host)?;
@@ -79,6 +82,7 @@ fn prepare<H: Host>(
     ensures fault { result ≡ Err Stop.Host → Rose (H.faults host.old) (H.faults host.new) }
     ensures cause { result ≡ Err Stop.Host → H.steady host.old ≡ true → IfSome (H.files host.old) (λ m. RunOf m folder.now script.now 3 host_fault_line m) }
     ensures unread { result ≡ Err Stop.Read → H.source_steady host.old script.now ≡ true → ⊥ }
+    ensures read { result ≡ Err Stop.Read → IfSome (H.files host.old) (λ m. IsReady m folder.now script.now) }
     ensures goes { Goes H.faults H.steady H.source_steady H.sink_steady host.old host.new }
     ensures keeps { Keeps H.files H.said host.old host.new }
 {

@@ -34,7 +34,7 @@ check_some false r y e = absurd cc
 -- K is what is known beforehand of the value
 pub record Agrees {A : Type 0} (K Fits : A → Type 0) (write : A → List ℕ) (read : List ℕ → Read A) : Type 0 where
   pub found : (s t : List ℕ) (x : A) → IsBytes s → read s ≡ Some (x, t) → (s ≡ write x ++ t) × Fits x × K x
-  pub again : (s t : List ℕ) (x : A) → IsBytes s → s ≡ write x ++ t → Fits x → K x → read s ≡ Some (x, t)
+  pub again : (s t : List ℕ) (x : A) → s ≡ write x ++ t → Fits x → K x → read s ≡ Some (x, t)
 
 abbrev pub Any : {A : Type 0} → A → Type 0
 Any x = Unit {0}
@@ -50,17 +50,17 @@ field {A} {B} {FA} {wA} {rA} {K} {F} {wB} of more p q = record {
       let g = (q h.0.0 f.1).found h.0.1 t b (bytes_after s h.0.1 (wA h.0.0) fits f.0) h.2 in
       let is : h.0.0 ≡ of b = sym g.2.0 in
       (subst (λ a. s ≡ (wA a ++ wB b) ++ t) is (then s h.0.1 t (wA h.0.0) (wB b) f.0 g.0), (subst FA is f.1, g.1), g.2.1);
-  again = λ s t b fits h good known.
+  again = λ s t b h good known.
       let m : List ℕ = wB b ++ t in
       let first : s ≡ wA (of b) ++ m = h ∙ append_assoc (wA (of b)) (wB b) t in
-      rw (p.again s m (of b) fits first good.0 tt) ((q (of b) good.0).again m t b (bytes_after s m (wA (of b)) fits first) refl good.1 (refl, known));
+      rw (p.again s m (of b) first good.0 tt) ((q (of b) good.0).again m t b refl good.1 (refl, known));
 }
 
 -- all fields are read
 pub done : {B : Type 0} {K : B → Type 0} (made : B) → K made → ((b : B) → K b → b ≡ made) → Agrees K Any (λ _. []) (λ s. Some (made, s))
 done {B} {K} made known one = record {
   found = λ s t b fits e. let is = some_pair made b s t e in (is.1, tt, subst K is.0 known);
-  again = λ s t b fits h good k. rw (one b k, h) refl;
+  again = λ s t b h good k. rw (one b k, h) refl;
 }
 
 -- a rule, where what is known of the value says whether it holds
@@ -68,7 +68,7 @@ pub ruled : {B : Type 0} {K F : B → Type 0} {w : B → List ℕ} {r : List ℕ
     → ((x : B) → K x → b ≡ true) → (b ≡ true → Agrees K F w r) → Agrees K F w (λ s. check b >>= λ _. r s)
 ruled {r = r} b holds p = record {
   found = λ s t x fits e. let h = check_some b (r s) (x, t) e in (p h.0).found s t x fits h.1;
-  again = λ s t x fits h good k. let is = holds x k in rw is ((p is).again s t x fits h good k);
+  again = λ s t x h good k. let is = holds x k in rw is ((p is).again s t x h good k);
 }
 
 -- the same under other words
@@ -76,7 +76,7 @@ pub restated : {B : Type 0} {K F : B → Type 0} {w : B → List ℕ} {r : List 
     → ((x : B) → K x → v x ≡ w x) → ((x : B) → K x → F x → G x) → ((x : B) → K x → G x → F x) → Agrees K F w r → Agrees K G v r
 restated {w = w} G v same to from p = record {
   found = λ s t x fits e. let g = p.found s t x fits e in (subst (λ (text : List ℕ). s ≡ text ++ t) (sym (same x g.2)) g.0, to x g.2 g.1, g.2);
-  again = λ s t x fits h good k. p.again s t x fits (subst (λ (text : List ℕ). s ≡ text ++ t) (same x k) h) (from x k good) k;
+  again = λ s t x h good k. p.again s t x (subst (λ (text : List ℕ). s ≡ text ++ t) (same x k) h) (from x k good) k;
 }
 
 -- one after the other
@@ -96,17 +96,17 @@ module _ {A : Type 0} {F : A → Type 0} {w : A → List ℕ} {r : List ℕ → 
       let whole : s ≡ flat_map w (a.0.0 ∷ b.0.0) ++ b.0.1 = rw flat_map-cons (then s a.0.1 b.0.1 (w a.0.0) (flat_map w b.0.0) f.0 g.0) in
       subst (λ (ys : List A). (s ≡ flat_map w ys ++ t) × ((length ys ≡ suc n) × AllByRecursion F ys) × Unit {0}) is.0 (subst (λ (u : List ℕ). s ≡ flat_map w (a.0.0 ∷ b.0.0) ++ u) is.1 whole, (ap suc g.1.0, (f.1, g.1.1)), tt)
 
-  many_again : (xs : List A) (s t : List ℕ) → IsBytes s → s ≡ flat_map w xs ++ t → AllByRecursion F xs → many_at r (length xs) s ≡ Some (xs, t)
+  many_again : (xs : List A) (s t : List ℕ) → s ≡ flat_map w xs ++ t → AllByRecursion F xs → many_at r (length xs) s ≡ Some (xs, t)
   unfolding many_at
-  many_again [] s t fits h good = rw h refl
-  many_again (x ∷ xs) s t fits h good =
+  many_again [] s t h good = rw h refl
+  many_again (x ∷ xs) s t h good =
       let m : List ℕ = flat_map w xs ++ t in
       let cut = flat_map-cons w x xs in
       let first : s ≡ w x ++ m = h ∙ ap (λ (y : List ℕ). y ++ t) cut ∙ append_assoc (w x) (flat_map w xs) t in
-      rw (p.again s m x fits first good.0 tt, many_again xs m t (bytes_after s m (w x) fits first) refl good.1) refl
+      rw (p.again s m x first good.0 tt, many_again xs m t refl good.1) refl
 
 pub many : {A : Type 0} {F : A → Type 0} {w : A → List ℕ} {r : List ℕ → Read A} → Agrees Any F w r → (n : ℕ) → Agrees Any (λ xs. (length xs ≡ n) × AllByRecursion F xs) (λ xs. flat_map w xs) (many_at r n)
 many {A} {F} {w} {r} p n = record {
   found = λ s t xs fits e. many_found p n s t xs fits e;
-  again = λ s t xs fits h good k. subst (λ m. many_at r m s ≡ Some (xs, t)) good.0 (many_again p xs s t fits h good.1);
+  again = λ s t xs h good k. subst (λ m. many_at r m s ≡ Some (xs, t)) good.0 (many_again p xs s t h good.1);
 }

@@ -4,6 +4,7 @@ use Rattle.std.proofs.lemmas.List.{nil_from_length}
 use Rattle.std.proofs.lemmas.List.Elements.{All-from_recursion, recursion_from_All}
 use Rattle.std.proofs.lemmas.Option.{same_Some}
 use Rattle.slicer_ids.specs.declared.ids.NoMemory.{NoMemory}
+use Rattle.class_form.specs.Pools.{class_at}
 use Rattle.small_class.specs.declared.class.SmallClass.{SmallClass}
 use Rattle.small_class.specs.declared.parts.Parts.{Parts}
 use Rattle.small_class.specs.Spelling.{SmallFile, Fits, FitsConstant, IsFileOf, SpellsSmall, spelling}
@@ -66,9 +67,9 @@ parts_found bytes p fits e =
     let whole : bytes ≡ spelling (small_file a.0.0) = g.0 ∙ ap (λ (r : List ℕ). spelling (small_file a.0.0) ++ r) none ∙ append-nil (spelling (small_file a.0.0)) in
     subst (λ (q : Parts). Fits (small_file q) × (bytes ≡ spelling (small_file q))) (same_Some a.0.0 p b.1) (fits_of a.0.0 g.1, whole)
 
-parts_again : (bytes : List ℕ) (c : SmallClass) (f : SmallFile) → IsBytes bytes → Fits f → IsFileOf f c → bytes ≡ spelling f → parts_of bytes ≡ Some (parts_from f)
+parts_again : (bytes : List ℕ) (c : SmallClass) (f : SmallFile) → Fits f → IsFileOf f c → bytes ≡ spelling f → parts_of bytes ≡ Some (parts_from f)
 unfolding parts_of
-parts_again bytes c f fits h file e = rw (parts_agree.again bytes [] (parts_from f) fits (e ∙ sym (append-nil (spelling f))) (parts_fit f c h file) tt) refl
+parts_again bytes c f h file e = rw (parts_agree.again bytes [] (parts_from f) (e ∙ sym (append-nil (spelling f))) (parts_fit f c h file) tt) refl
 
 -- what the parts tell, the bytes tell
 pub found : (bytes : List ℕ) (p : Parts) (r : Result (Option SmallClass) NoMemory) → IsBytes bytes → parts_of bytes ≡ Some p → IfOk r (λ o. IfSome o (λ c. IsFileOf (small_file p) c)) → IfOk r (λ o. IfSome o (λ c. SpellsSmall bytes c))
@@ -78,9 +79,22 @@ found bytes p (Err x) fits e h = tt
 
 pub only : (bytes : List ℕ) (p : Parts) (r : Result (Option SmallClass) NoMemory) → IsBytes bytes → parts_of bytes ≡ Some p → IfOk r (λ o. (c : SmallClass) → IsFileOf (small_file p) c → o ≡ Some c) → IfOk r (λ o. (c : SmallClass) → SpellsSmall bytes c → o ≡ Some c)
 only bytes p (Ok o) fits e h = λ c s.
-    let same : parts_from s.0 ≡ p = same_Some (parts_from s.0) p (sym (parts_again bytes c s.0 fits s.1 s.2 s.3) ∙ e) in
+    let same : parts_from s.0 ≡ p = same_Some (parts_from s.0) p (sym (parts_again bytes c s.0 s.1 s.2 s.3) ∙ e) in
     h c (subst (λ (q : Parts). IsFileOf (small_file q) c) same s.2)
 only bytes p (Err x) fits e h = tt
 
 pub none : (bytes : List ℕ) (c : SmallClass) → IsBytes bytes → parts_of bytes ≡ None → SpellsSmall bytes c → ⊥
-none bytes c fits e s = absurd (let d = sym e ∙ parts_again bytes c s.0 fits s.1 s.2 s.3 in cc)
+none bytes c fits e s = absurd (let d = sym e ∙ parts_again bytes c s.0 s.1 s.2 s.3 in cc)
+
+-- the name that a pool gives an index is one
+named_once : (c d : SmallClass) (o : Option (List ℕ)) → o ≡ Some c.name → o ≡ Some d.name → c.name ≡ d.name
+named_once c d o p q = same_Some c.name d.name (sym p ∙ q)
+
+same_class : (c d : SmallClass) → c.name ≡ d.name → c.max_stack ≡ d.max_stack → c.max_locals ≡ d.max_locals → c.code ≡ d.code → c ≡ d
+same_class c d e0 e1 e2 e3 = rw (e0, e1, e2, e3) refl
+
+pub one_file : (bytes : List ℕ) (c d : SmallClass) → SpellsSmall bytes c → SpellsSmall bytes d → c ≡ d
+one_file bytes c d s t =
+    let same : parts_from s.0 ≡ parts_from t.0 = same_Some (parts_from s.0) (parts_from t.0) (sym (parts_again bytes c s.0 s.1 s.2 s.3) ∙ parts_again bytes d t.0 t.1 t.2 t.3) in
+    let g : IsFileOf (small_file (parts_from s.0)) d = subst (λ (p : Parts). IsFileOf (small_file p) d) (sym same) t.2 in
+    same_class c d (named_once c d (class_at s.0.pool s.0.this_class) s.2.0.this_class.0 g.0.this_class.0) (sym s.2.1 ∙ g.1) (sym s.2.2 ∙ g.2) (sym s.2.3 ∙ g.3)

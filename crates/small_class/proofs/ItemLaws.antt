@@ -29,12 +29,12 @@ text_found s t x fits e =
     let named : s ≡ text_of b.0.0 ++ b.0.1 = subst (λ n. s ≡ (big_bytes 2 n ++ b.0.0) ++ b.0.1) (sym g.1) whole in
     (b.0.0, is.0, subst (λ (r : List ℕ). s ≡ text_of b.0.0 ++ r) is.1 named, omega (arith, g.1, f.1))
 
-text_again : (text s t : List ℕ) → IsBytes s → s ≡ text_of text ++ t → length text < 2 ^ 16 → text_at s ≡ Some (Utf8 text, t)
+text_again : (text s t : List ℕ) → s ≡ text_of text ++ t → length text < 2 ^ 16 → text_at s ≡ Some (Utf8 text, t)
 unfolding text_at
-text_again text s t fits h good =
+text_again text s t h good =
     let m : List ℕ = text ++ t in
     let first : s ≡ big_bytes 2 (length text) ++ m = h ∙ append_assoc (big_bytes 2 (length text)) text t in
-    rw (u2_agree.again s m (length text) fits first good tt, (bytes_agree (length text)).again m t text (bytes_after s m (big_bytes 2 (length text)) fits first) refl refl tt) refl
+    rw (u2_agree.again s m (length text) first good tt, (bytes_agree (length text)).again m t text refl refl tt) refl
 
 class_found : (s t : List ℕ) (x : Constant) → IsBytes s → class_at s ≡ Some (x, t) → (name : ℕ) × (Class name ≡ x) × (s ≡ big_bytes 2 name ++ t) × (name < 2 ^ 16)
 unfolding class_at
@@ -44,9 +44,9 @@ class_found s t x fits e =
     let is = some_pair (Class a.0.0) x a.0.1 t a.2 in
     (a.0.0, is.0, subst (λ (r : List ℕ). s ≡ big_bytes 2 a.0.0 ++ r) is.1 f.0, f.1)
 
-class_again : (name : ℕ) (s t : List ℕ) → IsBytes s → s ≡ big_bytes 2 name ++ t → name < 2 ^ 16 → class_at s ≡ Some (Class name, t)
+class_again : (name : ℕ) (s t : List ℕ) → s ≡ big_bytes 2 name ++ t → name < 2 ^ 16 → class_at s ≡ Some (Class name, t)
 unfolding class_at
-class_again name s t fits h good = rw (u2_agree.again s t name fits h good tt) refl
+class_again name s t h good = rw (u2_agree.again s t name h good tt) refl
 
 chosen : {A : Type 0} (b : Bool) (x y z : A) → cond b x y ≡ z → ((b ≡ true) × (x ≡ z)) ⊎ ((b ≡ false) × (y ≡ z))
 chosen true x y z e = inl (refl, e)
@@ -76,22 +76,22 @@ constant_found s t x fits e =
       ]
     ]
 
-constant_again : (x : Constant) (s t : List ℕ) → IsBytes s → s ≡ spell_constant x ++ t → FitsConstant x → constant_at s ≡ Some (x, t)
+constant_again : (x : Constant) (s t : List ℕ) → s ≡ spell_constant x ++ t → FitsConstant x → constant_at s ≡ Some (x, t)
 unfolding constant_at
-constant_again (Utf8 text) s t fits h good =
+constant_again (Utf8 text) s t h good =
     let m : List ℕ = text_of text ++ t in
     let first : s ≡ big_bytes 1 1 ++ m = h in
-    rw (u1_agree.again s m 1 fits first (omega arith) tt) (text_again text m t (bytes_after s m (big_bytes 1 1) fits first) refl good)
-constant_again (Class name) s t fits h good =
+    rw (u1_agree.again s m 1 first (omega arith) tt) (text_again text m t refl good)
+constant_again (Class name) s t h good =
     let m : List ℕ = big_bytes 2 name ++ t in
     let first : s ≡ big_bytes 1 7 ++ m = h in
-    rw (u1_agree.again s m 7 fits first (omega arith) tt) (class_again name m t (bytes_after s m (big_bytes 1 7) fits first) refl good)
-constant_again x s t fits h good = absurd good
+    rw (u1_agree.again s m 7 first (omega arith) tt) (class_again name m t refl good)
+constant_again x s t h good = absurd good
 
 constant_agree : Agrees Any FitsConstant spell_constant constant_at
 constant_agree = record {
   found = λ s t x fits e. constant_found s t x fits e;
-  again = λ s t x fits h good k. constant_again x s t fits h good;
+  again = λ s t x h good k. constant_again x s t h good;
 }
 
 -- ---- the attribute

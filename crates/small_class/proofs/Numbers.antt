@@ -29,7 +29,7 @@ bytes_agree n = record {
       let len : length (take n s) ≡ n = omega (arith, length-take n s) in
       let P : List ℕ × List ℕ → Type 0 = λ y. (s ≡ y.0 ++ y.1) × (length y.0 ≡ n) × Unit {0} in
       subst P g.1 (sym (take-append-drop n s), len, tt);
-  again = λ s t x fits h good k.
+  again = λ s t x h good k.
       let long : ltb (length s) n ≡ false = le-ltb _ _ (omega (arith, ap length h, length-append x t)) in
       let front : take n s ≡ x = ap (take n) h ∙ take_at x t n good in
       let back : drop n s ≡ t = ap (drop n) h ∙ drop_at x t n good in
@@ -53,7 +53,7 @@ number_agree n wide = record {
       let bytes : IsBytes a.0.0 = bytes_of s a.0.1 a.0.0 fits g.0 in
       let P : ℕ × List ℕ → Type 0 = λ y. (s ≡ big_bytes n y.0 ++ y.1) × (y.0 < 2 ^ (8 * n)) × Unit {0} in
       subst (λ u. P (x, u)) is.1 (subst (λ y. P (y, a.0.1)) is.0 (rw (wide.back a.0.0 g.1 bytes) g.0, wide.below a.0.0 g.1 bytes, tt));
-  again = λ s t x fits h good k. rw ((bytes_agree n).again s t (big_bytes n x) fits h (wide.len x) tt, wide.again x good) refl;
+  again = λ s t x h good k. rw ((bytes_agree n).again s t (big_bytes n x) h (wide.len x) tt, wide.again x good) refl;
 }
 
 one_byte : (bytes : List ℕ) → length bytes ≡ 1 → IsBytes bytes → big_bytes 1 (big_number 1 bytes) ≡ bytes
@@ -95,7 +95,7 @@ fixed_agree n value fits p = record {
       let same = some_pair tt u a.0.1 t b.1 in
       let g = p.found s a.0.1 a.0.0 is a.1 in
       (subst (λ (r : List ℕ). s ≡ big_bytes n value ++ r) same.1 (subst (λ x. s ≡ big_bytes n x ++ a.0.1) (eqb-true a.0.0 value b.0) g.0), tt, tt);
-  again = λ s t u is h good k. rw (p.again s t value is h fits tt, eq-eqb value value refl) refl;
+  again = λ s t u h good k. rw (p.again s t value h fits tt, eq-eqb value value refl) refl;
 }
 
 pub fixed2_agree : (value : ℕ) → value < 2 ^ 16 → Agrees Any Any (λ _. big_bytes 2 value) (fixed_at 2 value)

@@ -4,6 +4,7 @@
 pub mod class;
 mod cursor;
 mod items;
+pub mod laws;
 mod parts;
 pub mod reading;
 mod rules;

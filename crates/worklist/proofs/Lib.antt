@@ -1,5 +1,3 @@
-pub mod Growing
 pub mod Marking
-pub mod Closing
 pub mod Orders
 pub mod Slices

@@ -5,7 +5,7 @@ use Rattle.std.proofs.lemmas.Bool.{cases_eq}
 use Rattle.std.proofs.lemmas.List.{append-nil, set-get_or}
 use Rattle.std.proofs.lemmas.List.Sums.{sum_by-set, sum_by-cons}
 use Rattle.std.proofs.lemmas.List.Elements.{All-weaker, All-push, All-nil, Contains-append_left, Contains-push, Contains-push_cases}
-use Rattle.worklist.specs.Growth.{Grows}
+use Rattle.worklists.specs.Growth.{Grows}
 use Rattle.worklist.specs.Worklists.{IsWorklist, is_marked}
 
 abbrev pub added : List Bool → List ℕ → ℕ → List ℕ

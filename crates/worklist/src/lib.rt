@@ -2,7 +2,7 @@
 #![tactic(auto)]
 
 ghost use Rattle.std.specs.Prelude.{◌≡◌, ◌<◌, ◌++◌, ◌∷◌, [], true, if◌then◌else◌, length, IfOk, OnOk, slice_set, vec_len};
-ghost use Rattle.worklist.specs.Growth.{Grows};
+ghost use Rattle.worklists.specs.Growth.{Grows};
 ghost use Rattle.worklist.specs.Worklists.{IsWorklist, is_marked};
 
 use slicer_ids::ids::NoMemory;

@@ -1,5 +1,6 @@
 -- How the list of a worklist grows.
 use Rattle.std.proofs.Common.{◌≡◌, ℕ, ◌+◌, ◌<◌, List, [], ◌∷◌, ◌++◌, length, get_or, take, Contains, ◌⊎◌, inl, inr, sym, ap, subst, ◌∙◌, append_assoc, ◌≤◌, arith}
+use Rattle.std.proofs.lemmas.Bool.{cases_lt}
 use Rattle.std.proofs.lemmas.List.{append-nil, take_more, take_all}
 use Rattle.std.proofs.Math.ListN.{get_or-append}
 use Rattle.std.proofs.lemmas.List.Elements.{Contains-append_left, Contains-push, Contains-push_cases}
@@ -39,6 +40,26 @@ Grows-same old new P Q to from g = record { front = g.front; all = λ p q. g.all
 -- an item before the new ones
 pub at_front : {A : Type 0} (old new : List A) (P : A → Type 0) (k : ℕ) (x : A) → Grows old new P → k < length old → x ≡ get_or new k x → x ≡ get_or old k x
 at_front {A} old new P k x g lt e = e ∙ ap (λ (xs : List A). get_or xs k x) g.front.1 ∙ get_or-append old g.front.0 x k lt
+
+-- R leads from a number below n to the item
+abbrev pub FromBelow : {A : Type 0} → (ℕ → A → Type 0) → ℕ → A → Type 0
+FromBelow R n x = (i : ℕ) × (i < n) × R i x
+
+-- a step of a loop over numbers
+pub Grows-next : {A : Type 0} (R : ℕ → A → Type 0) (n : ℕ) (old mid new : List A) → Grows old mid (FromBelow R n) → Grows mid new (R n) → Grows old new (FromBelow R (n + 1))
+Grows-next {A} R n old mid new g h = Grows-then old mid new (FromBelow R n) (R n) (FromBelow R (n + 1)) to from g h
+  where
+    to : (x : A) → FromBelow R (n + 1) x → FromBelow R n x ⊎ R n x
+    to x f = elim (cases_lt f.0 n) [ inl lt ↦ inl (f.0, lt, f.2) | inr le ↦ let e : f.0 ≡ n = omega arith in inr (subst (λ i. R i x) e f.2) ]
+
+    from : (x : A) → FromBelow R n x ⊎ R n x → FromBelow R (n + 1) x
+    from x (inl f) = (f.0, omega arith, f.2)
+    from x (inr r) = (n, omega arith, r)
+
+-- a step of a loop over elements
+pub Grows-each : {A : Type 0} {X : Type 0} (R : X → A → Type 0) (xs : List X) (i : ℕ) (x : X) (old mid new : List A) → i < length xs → x ≡ get_or xs i x
+    → Grows old mid (FromOne R (take i xs)) → Grows mid new (R x) → Grows old new (FromOne R (take (i + 1) xs))
+Grows-each R xs i x old mid new lt e g h = Grows-more R xs i x old mid new lt g (subst (λ y. Grows mid new (R y)) e h)
 
 -- a list that grew from nothing by the whole of another
 pub of_whole : {A X : Type 0} (R : X → A → Type 0) (xs : List X) (i : ℕ) (old new : List A) → old ≡ [] → length xs ≤ i → Grows old new (FromOne R (take i xs))

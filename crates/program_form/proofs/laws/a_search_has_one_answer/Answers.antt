@@ -1,4 +1,4 @@
-use Rattle.std.proofs.Common.{◌≡◌, List, ℕ, Some, ◌++◌, sym, subst, ◌∙◌, ap}
+use Rattle.std.proofs.Common.{◌≡◌, Some, ◌++◌, sym, subst, ◌∙◌, ap}
 use Rattle.class_form.specs.Resolution.{DeclaresField, DeclaresMethod, DeclaresInstance, FirstIn, InterfacesOf}
 use Rattle.program_form.proofs.Visits.{one_field, one_chain, one_above, one_first}
 use Rattle.program_form.proofs.laws.a_search_has_one_answer.Goals as goal

@@ -1,5 +1,5 @@
 use Rattle.std.proofs.Common.{[], ◌∙◌}
-use Rattle.worklist.proofs.Growing.{Grows-more}
+use Rattle.worklists.proofs.Growing.{Grows-more}
 use Rattle.reaching_defs.specs.Facts.{IsFactOf}
 use Rattle.reaching_defs.proofs.definitions.facts_of.Goals as goal
 

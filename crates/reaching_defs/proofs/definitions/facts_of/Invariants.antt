@@ -1,5 +1,5 @@
 use Rattle.std.proofs.Common.{◌≡◌, length, take, []}
-use Rattle.worklist.specs.Growth.{Grows, FromOne}
+use Rattle.worklists.specs.Growth.{Grows, FromOne}
 use Rattle.worklist.specs.Worklists.{IsWorklist}
 use Rattle.reaching_defs.specs.Facts.{IsFactOf}
 use Rattle.reaching_defs.proofs.definitions.facts_of.Given as goal

@@ -1,6 +1,6 @@
 use Rattle.std.proofs.Common.{List, [], sym, subst}
 use Rattle.class_form.specs.declared.body.Point.{Point}
-use Rattle.worklist.specs.Growth.{Grows, FromOne}
+use Rattle.worklists.specs.Growth.{Grows, FromOne}
 use Rattle.reaching_defs.specs.declared.starts.Start.{Start}
 use Rattle.reaching_defs.specs.Points.{IsIndex}
 use Rattle.reaching_defs.specs.Facts.{IsFactOf}

@@ -2,8 +2,8 @@ use Rattle.std.proofs.Common.{ℕ, List, get_or, Contains, inl, subst, ◌∙◌
 use Rattle.std.proofs.lemmas.List.{take_all}
 use Rattle.std.proofs.lemmas.List.Elements.{Contains-get_or}
 use Rattle.class_form.specs.declared.body.Point.{Point}
-use Rattle.worklist.specs.Growth.{Grows, FromOne}
-use Rattle.worklist.proofs.Growing.{Grows-more}
+use Rattle.worklists.specs.Growth.{Grows, FromOne}
+use Rattle.worklists.proofs.Growing.{Grows-more}
 use Rattle.reaching_defs.specs.Frames.{place, IsNumberOf}
 use Rattle.reaching_defs.proofs.Places.{one_point}
 use Rattle.reaching_defs.proofs.Spreading.{grows_value}

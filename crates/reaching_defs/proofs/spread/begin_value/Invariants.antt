@@ -1,5 +1,5 @@
 use Rattle.std.proofs.Common.{◌≡◌, length, take}
-use Rattle.worklist.specs.Growth.{Grows, FromOne}
+use Rattle.worklists.specs.Growth.{Grows, FromOne}
 use Rattle.worklist.specs.Worklists.{IsWorklist}
 use Rattle.reaching_defs.specs.Frames.{place, IsNumberOf}
 use Rattle.reaching_defs.proofs.spread.begin_value.Given as goal

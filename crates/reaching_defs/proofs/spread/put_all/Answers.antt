@@ -1,4 +1,4 @@
-use Rattle.worklist.proofs.Growing.{Grows-more}
+use Rattle.worklists.proofs.Growing.{Grows-more}
 use Rattle.reaching_defs.specs.Facts.{IsFactAt}
 use Rattle.reaching_defs.proofs.spread.put_all.Goals as goal
 

@@ -1,5 +1,5 @@
 use Rattle.std.proofs.Common.{take}
-use Rattle.worklist.specs.Growth.{Grows, FromOne}
+use Rattle.worklists.specs.Growth.{Grows, FromOne}
 use Rattle.reaching_defs.specs.Facts.{IsFactAt}
 use Rattle.reaching_defs.proofs.spread.put_all.Given as goal
 

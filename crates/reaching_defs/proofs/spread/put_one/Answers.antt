@@ -1,6 +1,6 @@
 use Rattle.std.proofs.Common.{◌≡◌, ◌+◌, ◌/◌, ◌%◌, ℕ, List, length, get_or, sym, ap, subst, ◌∙◌}
 use Rattle.class_form.specs.declared.body.Point.{Point}
-use Rattle.worklist.specs.Growth.{Grows}
+use Rattle.worklists.specs.Growth.{Grows}
 use Rattle.reaching_defs.specs.Frames.{place}
 use Rattle.reaching_defs.proofs.Places.{read_at}
 use Rattle.reaching_defs.specs.Facts.{fact}

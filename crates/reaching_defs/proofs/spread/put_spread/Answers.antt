@@ -1,6 +1,6 @@
 use Rattle.std.proofs.Common.{◌<◌, ℕ, List, get_or, sym, subst}
 use Rattle.std.proofs.lemmas.List.Elements.{Contains-get_or}
-use Rattle.worklist.specs.Growth.{Grows, FromOne}
+use Rattle.worklists.specs.Growth.{Grows, FromOne}
 use Rattle.reaching_defs.specs.Frames.{count}
 use Rattle.reaching_defs.specs.Facts.{IsFactAt}
 use Rattle.std.specs.Prelude.{All}

@@ -1,8 +1,8 @@
 use Rattle.std.proofs.Common.{◌<◌, length, inl, inr, refl, sym, ap, ◌∙◌, arith}
 use Rattle.reaching_defs.specs.Frames.{Steps}
-use Rattle.worklist.proofs.Closing.{begins, goes_on}
+use Rattle.worklists.proofs.ClosingOne.{begins, goes_on}
 use Rattle.reaching_defs.proofs.Spreading.{Good, by_one, begun_good, all_found}
-use Rattle.worklist.proofs.Growing.{Grows-kept}
+use Rattle.worklists.proofs.Growing.{Grows-kept}
 use Rattle.reaching_defs.proofs.spread.spread.Goals as goal
 
 pub loop-next-init : goal.loop-next-init

@@ -1,7 +1,7 @@
 use Rattle.std.proofs.Common.{◌≡◌, ◌-◌, ℕ, length, Contains}
 use Rattle.worklist.specs.Worklists.{IsWorklist}
 use Rattle.reaching_defs.specs.Frames.{Steps}
-use Rattle.worklist.proofs.Closing.{Closing}
+use Rattle.worklists.proofs.ClosingOne.{Closing}
 use Rattle.reaching_defs.specs.Frames.{IsBegun}
 use Rattle.reaching_defs.proofs.Spreading.{Good}
 use Rattle.reaching_defs.proofs.spread.spread.Given as goal

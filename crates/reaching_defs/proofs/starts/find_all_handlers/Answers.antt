@@ -1,6 +1,6 @@
 use Rattle.std.proofs.Common.{ℕ, List, Contains, subst, ◌∙◌}
-use Rattle.worklist.specs.Growth.{Grows}
-use Rattle.worklist.proofs.Growing.{Grows-each}
+use Rattle.worklists.specs.Growth.{Grows}
+use Rattle.worklists.proofs.Growing.{Grows-each}
 use Rattle.reaching_defs.specs.Starts.{HasHandler}
 use Rattle.reaching_defs.proofs.starts.find_all_handlers.Goals as goal
 

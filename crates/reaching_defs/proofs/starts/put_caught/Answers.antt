@@ -1,4 +1,4 @@
-use Rattle.worklist.proofs.Growing.{Grows-more}
+use Rattle.worklists.proofs.Growing.{Grows-more}
 use Rattle.reaching_defs.specs.Starts.{IsCaughtStart}
 use Rattle.reaching_defs.proofs.starts.put_caught.Goals as goal
 

@@ -1,7 +1,7 @@
 use Rattle.std.proofs.Common.{◌≡◌, ℕ, length, get_or, refl, subst, arith}
 use Rattle.std.proofs.lemmas.List.Sums.{sum_by_more}
-use Rattle.worklist.specs.Growth.{Grows}
-use Rattle.worklist.proofs.Growing.{FromBelow, Grows-next}
+use Rattle.worklists.specs.Growth.{Grows}
+use Rattle.worklists.proofs.Growing.{FromBelow, Grows-next}
 use Rattle.reaching_defs.specs.Starts.{IsFormalStart}
 use Rattle.reaching_defs.proofs.Beginning.{one_formal, all_formals}
 use Rattle.reaching_defs.proofs.starts.put_formals.Goals as goal

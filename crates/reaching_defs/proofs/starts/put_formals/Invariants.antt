@@ -1,6 +1,6 @@
 use Rattle.std.proofs.Common.{◌≡◌, take, sum}
-use Rattle.worklist.specs.Growth.{Grows}
-use Rattle.worklist.proofs.Growing.{FromBelow}
+use Rattle.worklists.specs.Growth.{Grows}
+use Rattle.worklists.proofs.Growing.{FromBelow}
 use Rattle.reaching_defs.specs.Starts.{IsFormalStart}
 use Rattle.reaching_defs.proofs.starts.put_formals.Given as goal
 

@@ -1,8 +1,8 @@
 use Rattle.std.proofs.Common.{◌≡◌, ℕ, List, subst, ◌∙◌}
 use Rattle.std.proofs.lemmas.List.{take_all}
 use Rattle.class_form.specs.declared.body.Def.TheVariants.{Value}
-use Rattle.worklist.specs.Growth.{Grows, FromOne}
-use Rattle.worklist.proofs.Growing.{Grows-more}
+use Rattle.worklists.specs.Growth.{Grows, FromOne}
+use Rattle.worklists.proofs.Growing.{Grows-more}
 use Rattle.reaching_defs.specs.Starts.{start}
 use Rattle.reaching_defs.proofs.Beginning.{all_made}
 use Rattle.reaching_defs.proofs.starts.put_made.Goals as goal

@@ -1,5 +1,5 @@
 use Rattle.std.proofs.Common.{◌≡◌, take}
-use Rattle.worklist.specs.Growth.{Grows, FromOne}
+use Rattle.worklists.specs.Growth.{Grows, FromOne}
 use Rattle.class_form.specs.declared.body.Def.TheVariants.{Value}
 use Rattle.reaching_defs.specs.Starts.{start}
 use Rattle.reaching_defs.proofs.starts.put_made.Given as goal

@@ -1,6 +1,6 @@
 use Rattle.std.proofs.Common.{◌≡◌, ◌+◌, subst, arith}
-use Rattle.worklist.specs.Growth.{Grows}
-use Rattle.worklist.proofs.Growing.{FromBelow, Grows-next}
+use Rattle.worklists.specs.Growth.{Grows}
+use Rattle.worklists.proofs.Growing.{FromBelow, Grows-next}
 use Rattle.reaching_defs.specs.Starts.{start}
 use Rattle.reaching_defs.proofs.Beginning.{slots_below}
 use Rattle.reaching_defs.proofs.starts.put_slots.Goals as goal

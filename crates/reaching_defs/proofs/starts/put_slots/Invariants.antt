@@ -1,6 +1,6 @@
 use Rattle.std.proofs.Common.{◌≡◌, ◌+◌}
-use Rattle.worklist.specs.Growth.{Grows}
-use Rattle.worklist.proofs.Growing.{FromBelow}
+use Rattle.worklists.specs.Growth.{Grows}
+use Rattle.worklists.proofs.Growing.{FromBelow}
 use Rattle.reaching_defs.specs.Starts.{start}
 use Rattle.reaching_defs.proofs.starts.put_slots.Given as goal
 

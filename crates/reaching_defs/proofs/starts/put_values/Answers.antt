@@ -1,4 +1,4 @@
-use Rattle.worklist.proofs.Growing.{Grows-each}
+use Rattle.worklists.proofs.Growing.{Grows-each}
 use Rattle.reaching_defs.specs.Starts.{IsValueStart}
 use Rattle.reaching_defs.proofs.starts.put_values.Goals as goal
 

@@ -1,10 +1,10 @@
-use Rattle.std.proofs.Common.{rules, ◌≡◌, ◌∙◌, ap, sym, subst, inl, inr, refl, Option, true, ℕ, List}
+use Rattle.std.proofs.Common.{rules, ◌≡◌, ◌∙◌, ap, sym, subst, inl, inr, refl, Option, true, ℕ, List, IfSome, Some}
 use Rattle.edge_io.specs.Files.{Files}
 use Rattle.edge_io.specs.Reads.{appended}
 use Rattle.slicer_service.specs.declared.output.Delivered.{Delivered}
 use Rattle.slicer_service.specs.Texts.{not_built_line, host_fault_line, done_line, write_fault_line, read_fault_line}
 use Rattle.slicer_service.specs.Outputs.{IsNoFault}
-use Rattle.slicer_service.specs.Endings.{RunsAs, WriteFaultEnds}
+use Rattle.slicer_service.specs.Endings.{RunsAs, WriteFaultEnds, Delivers}
 use Rattle.slicer_service.specs.Runs.{output_of}
 use Rattle.slicer_service.proofs.RunEndings.{done_told, write_fault_told, made_told, unmade_told, runs_as}
 use Rattle.slicer_service.proofs.served.serve.Goals as goal
@@ -56,3 +56,12 @@ returns-in-Err-clause-cause g c = λ e steady.
 pub returns-in-Err-clause-files : goal.returns-in-Err-clause-files
 returns-in-Err-clause-files g c =
     unmade_told (g.H.Host.files c.args.host.now) (g.H.Host.files c.stopped.new.host) c.args.folder.now c.args.script.now (c.stopped.ensures.files ∙ search rules)
+
+pub returns-in-Ok-clause-says : goal.returns-in-Ok-clause-says
+returns-in-Ok-clause-says g c =
+    let s = c.concluded.ensures.says in
+    let a = c.in-Ok.ensures in
+    let files = g.H.Host.files c.args.host.now in
+    let made = subst (λ (o : Option Files). IfSome files (λ (m : Files). (after : Files) × (o ≡ Some after) × Delivers m c.args.folder.now c.args.script.now c.in-Ok.delivered after))
+    (sym c.concluded.ensures.files) a.delivered in
+    (s.0, s.1 ∙ ap (λ (o : Option (List ℕ)). appended s.0 o) a.said, inr (c.in-Ok.delivered, record { sure = a.sure; made = made }, s.2))

@@ -1,6 +1,6 @@
 use Rattle.std.proofs.Common.{get_or, ◌∙◌}
 use Rattle.std.proofs.lemmas.List.Elements.{Contains-get_or}
-use Rattle.worklist.proofs.Growing.{Grows-more}
+use Rattle.worklists.proofs.Growing.{Grows-more}
 use Rattle.reaching_defs.specs.Frames.{IsMoved}
 use Rattle.reaching_defs.proofs.Carrying.{that_move}
 use Rattle.reaching_defs.proofs.frame.Frame.follow_all.Goals as goal

@@ -1,5 +1,5 @@
 use Rattle.std.proofs.Common.{ℕ, List, Contains, inl, refl, subst}
-use Rattle.worklist.specs.Growth.{Grows, FromOne}
+use Rattle.worklists.specs.Growth.{Grows, FromOne}
 use Rattle.reaching_defs.specs.Frames.{IsMoved}
 use Rattle.reaching_defs.proofs.Carrying.{grows_on, moved_in}
 use Rattle.reaching_defs.proofs.frame.Frame.go_on.Goals as goal

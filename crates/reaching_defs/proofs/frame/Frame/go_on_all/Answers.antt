@@ -1,8 +1,8 @@
 use Rattle.std.proofs.Common.{ℕ, List, get_or, Contains, subst, ◌∙◌}
 use Rattle.std.proofs.lemmas.List.{take_all}
 use Rattle.std.proofs.lemmas.List.Elements.{Contains-get_or}
-use Rattle.worklist.specs.Growth.{Grows, FromOne}
-use Rattle.worklist.proofs.Growing.{Grows-more}
+use Rattle.worklists.specs.Growth.{Grows, FromOne}
+use Rattle.worklists.proofs.Growing.{Grows-more}
 use Rattle.reaching_defs.specs.Frames.{GoesOn}
 use Rattle.reaching_defs.proofs.frame.Frame.go_on_all.Goals as goal
 

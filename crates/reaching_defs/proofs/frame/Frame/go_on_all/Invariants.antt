@@ -1,5 +1,5 @@
 use Rattle.std.proofs.Common.{◌≡◌, take, length}
-use Rattle.worklist.specs.Growth.{Grows, FromOne}
+use Rattle.worklists.specs.Growth.{Grows, FromOne}
 use Rattle.worklist.specs.Worklists.{IsWorklist}
 use Rattle.reaching_defs.specs.Frames.{GoesOn}
 use Rattle.reaching_defs.proofs.frame.Frame.go_on_all.Given as goal

@@ -1,0 +1,5 @@
+pub mod Codes
+pub mod Covers
+pub mod Searches
+pub mod Listed
+pub mod Pointed

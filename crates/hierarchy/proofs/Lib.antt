@@ -1,0 +1,5 @@
+pub mod Bytes
+pub mod Twice
+pub mod Finding
+pub mod Rows
+pub mod Building
