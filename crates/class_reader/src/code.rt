@@ -5,11 +5,11 @@ ghost use Rattle.byte_form.specs.Reading.{Gives, list_at};
 ghost use Rattle.class_form.specs.ClassReading.{read_counted, read_handler, read_body, read_code};
 
 use crate::lines::code_attributes;
-use crate::rules::{has_code, is_handler};
 use byte_form::cursor::Cursor;
 use byte_form::error::ItemError;
 use class_form::class_file::{Attribute, CodeBody, Content, Handler};
 use class_form::pool::Pool;
+use class_rules::rules::{has_code, is_handler};
 use slicer_ids::list::List;
 use std::alloc::Global;
 

@@ -8,7 +8,6 @@ mod error;
 mod lines;
 mod methods;
 mod numbers;
-mod rules;
 
 pub use class::read_class;
 pub use error::ReadError;

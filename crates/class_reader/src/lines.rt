@@ -5,11 +5,11 @@ ghost use Rattle.byte_form.specs.Reading.{Gives, list_at};
 ghost use Rattle.class_form.specs.ClassReading.{read_counted, read_line, read_lines, read_other_code_content, read_code_content, read_code_attribute};
 
 use crate::attributes::kept;
-use crate::rules::is_named;
 use byte_form::cursor::Cursor;
 use byte_form::error::ItemError;
 use class_form::class_file::{CodeAttribute, CodeContent};
 use class_form::pool::Pool;
+use class_rules::rules::is_named;
 use const_pool::is_utf;
 use slicer_ids::list::List;
 use std::alloc::Global;

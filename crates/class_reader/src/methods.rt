@@ -10,14 +10,14 @@ ghost use Rattle.const_pool.specs.Texts.{AreKindsOf};
 use crate::attributes::{kept, plain_attributes};
 use crate::code::code;
 use crate::numbers::is_new;
-use crate::rules::{
-    are_field_texts, are_method_texts, has_code_where_needed, has_locals_for_all, has_slots,
-    is_named, is_of_kind,
-};
 use byte_form::cursor::Cursor;
 use byte_form::error::ItemError;
 use class_form::class_file::{Attribute, Content, Member};
 use class_form::pool::Pool;
+use class_rules::rules::{
+    are_field_texts, are_method_texts, has_code_where_needed, has_locals_for_all, has_slots,
+    is_named, is_of_kind,
+};
 use const_pool::is_utf;
 use const_pool::texts::TextKinds;
 use slicer_ids::list::List;

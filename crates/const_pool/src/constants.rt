@@ -10,7 +10,8 @@ use byte_form::error::ItemError;
 use class_form::pool::Constant;
 use std::alloc::Global;
 
-fn is_wide(constant: &Constant) -> bool
+/// Whether a constant takes two indices.
+pub fn is_wide(constant: &Constant) -> bool
     ensures { result ≡ is_wide constant.now }
 {
     matches!(constant, Constant::Long(_) | Constant::Double(_))

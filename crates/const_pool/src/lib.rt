@@ -8,7 +8,8 @@ mod pool;
 pub mod texts;
 
 pub use byte_form::error::ItemError as PoolError;
-pub use links::{is_class, is_utf, kinds_at};
+pub use constants::is_wide;
+pub use links::{has_kinds, has_texts, is_class, is_utf, kinds_at, spelled_len};
 pub use pool::{pool_at, read_pool};
 
 #[cfg(test)]

@@ -50,8 +50,8 @@ fn is_class_and_name(pool: &Pool, class: u16, rest: u16) -> bool
     is_class(pool, class) && is_name_and_type(pool, rest)
 }
 
-// Whether a constant's indices are of their kinds.
-fn has_kinds(pool: &Pool, constant: &Constant) -> bool
+/// Whether a constant's indices are of their kinds.
+pub fn has_kinds(pool: &Pool, constant: &Constant) -> bool
     ensures { result ≡ has_kinds pool.now constant.now }
 {
     match constant {
@@ -107,8 +107,8 @@ fn names_method(pool: &Pool, kinds: &[TextKinds], i: u16) -> bool
     }
 }
 
-// Whether a constant's texts are of their kinds.
-fn has_texts(pool: &Pool, kinds: &[TextKinds], constant: &Constant) -> bool
+/// Whether a constant's texts are of their kinds.
+pub fn has_texts(pool: &Pool, kinds: &[TextKinds], constant: &Constant) -> bool
     requires { AreKindsOf pool.now kinds.now }
     ensures { result ≡ has_texts pool.now constant.now }
 {
@@ -128,8 +128,8 @@ fn has_texts(pool: &Pool, kinds: &[TextKinds], constant: &Constant) -> bool
     }
 }
 
-// How many bytes a constant takes.
-fn spelled_len(constant: &Constant) -> usize
+/// How many bytes a constant takes, with its tag.
+pub fn spelled_len(constant: &Constant) -> usize
     ensures { result ≡ length (spell_constant constant.now) }
 {
     match constant {

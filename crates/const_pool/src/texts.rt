@@ -45,7 +45,8 @@ fn kinds_of_text(text: &[u8]) -> TextKinds
     }
 }
 
-fn kinds_of(constant: &Constant) -> TextKinds
+/// What a constant is as a text. Linear in it.
+pub fn kinds_of(constant: &Constant) -> TextKinds
     ensures { result ≡ kinds_of constant.now }
 {
     match constant {

@@ -3,7 +3,7 @@ use Rattle.std.proofs.Common.{◌≡◌, ℕ, ◌+◌, ◌<◌, ◌⊎◌, ◌�
 use Rattle.std.specs.Prelude.{All, IsPermutation, Result, Ok, Err, IfOk, IfErr}
 use Rattle.std.specs.Global.{Vec}
 use Rattle.std.proofs.lemmas.Bool.{cases_order, cases_lt}
-use Rattle.std.proofs.lemmas.List.Sorted.{All-permutation, length_permutation}
+use Rattle.std.proofs.lemmas.List.Sorted.{All-permutation, length_permutation, sum_by-IsPermutation}
 use Rattle.slicer_ids.specs.Order.{BytesBefore}
 use Rattle.slicer_ids.specs.Walks.{LeadsBy, IsWalk}
 use Rattle.class_form.specs.Classes.{IsAbove, AreInOrder}
@@ -14,13 +14,22 @@ use Rattle.digraph.specs.Graphs.{HasEdge}
 use Rattle.digraph.specs.Orders.{IsOrder, IsOnCycle}
 use Rattle.digraph.specs.Rows.{AreRows}
 use Rattle.digraph.proofs.Cycles.{no_cycle, same_cycle}
-use Rattle.hierarchy.specs.Names.{name_bytes, IsByName}
-use Rattle.hierarchy.specs.Trees.{AreOrdered, AreSubRows}
+use Rattle.hierarchy.specs.Names.{name_bytes, IsByName, AreEdges}
+use Rattle.hierarchy.specs.Trees.{AreOrdered, AreSubRows, AreFew, IsTree}
+use Rattle.hierarchy.specs.Searched.{IsSearched}
+use Rattle.hierarchy.specs.Numbered.{AreMembers}
+use Rattle.hierarchy.specs.Places.{count_members}
+use Rattle.hierarchy.specs.declared.look_up.Tree.{Tree}
+use Rattle.hierarchy.specs.declared.members.Kind.{Kind}
+use Rattle.hierarchy.specs.declared.members.Kind.TheVariants.{Field, Method}
+use Rattle.hierarchy.specs.declared.parents.Above.TheVariants.{Interfaces, Parents}
 use Rattle.hierarchy.specs.Causes.{IsCause}
 use Rattle.hierarchy.specs.declared.tree.TreeError.{TreeError}
 use Rattle.hierarchy.specs.declared.tree.TreeError.TheVariants.{NoMemory, Duplicate, Cycle}
 use Rattle.hierarchy.proofs.Twice.{far, name_at, is_named_at}
-use Rattle.hierarchy.proofs.Rows.{not_twice}
+use Rattle.hierarchy.proofs.Rows.{not_twice, edges_above}
+use Rattle.hierarchy.proofs.Renumbering.{least_twice_of, least_own_of, distinct_of}
+use Rattle.std.proofs.lemmas.List.Sums.{sum_by-le-sum_by}
 
 pub acyclic_from : (classes : List ClassFile) (rows : List (Vec ℕ)) (order : List ℕ) → ((a b : ℕ) → HasEdge rows a b ↔ IsAbove classes a b) → IsOrder rows order → AreAcyclic classes
 acyclic_from classes rows order above o c h = no_cycle rows order o c (same_cycle (IsAbove classes) (HasEdge rows) (λ a b e. (above a b).1 e) c c h)
@@ -45,23 +54,33 @@ distinct classes o name t = elim (cases_order t.0 t.1) [
   | inr apart ↦ elim apart [ inl lt ↦ not_twice classes name t.0 t.1 o.order t.3 t.4 lt | inr gt ↦ not_twice classes name t.1 t.0 o.order t.4 t.3 gt ]
 ]
 
-pub ordered_from : (files classes : List ClassFile) → IsPermutation files classes → IsByName classes → All IsNamedClass files → length files + 3 < 2 ^ 32 → AreInOrder classes → AreOrdered classes
+pub ordered_from : (files classes : List ClassFile) → IsPermutation files classes → IsByName classes → All IsNamedClass files → AreFew files → AreInOrder classes → AreOrdered classes
 ordered_from files classes p s named few order = record {
-  few = omega (arith, length_permutation files classes p);
+  few = omega (arith, few, length_permutation files classes p);
   named = All-permutation IsNamedClass files classes p named;
   sorted = s;
   order = order;
 }
 
+pub few_from : (files classes : List ClassFile) → IsPermutation files classes → AreFew files → AreFew classes
+few_from files classes p few =
+    let s = sum_by-IsPermutation (λ (k : ClassFile). length k.fields + length k.methods) files classes p in
+    omega (arith, few, s, length_permutation files classes p)
+
+-- fewer members of either kind
+pub few_members : (kind : Kind) (classes : List ClassFile) → AreFew classes → count_members kind classes < 2 ^ 32
+few_members Field classes few = let s = sum_by-le-sum_by (λ (k : ClassFile). length k.fields) (λ k. length k.fields + length k.methods) classes (λ k. omega arith) in omega (arith, s, few)
+few_members Method classes few = let s = sum_by-le-sum_by (λ (k : ClassFile). length k.methods) (λ k. length k.fields + length k.methods) classes (λ k. omega arith) in omega (arith, s, few)
+
 pub cause_twice : (files classes : List ClassFile) (name : List ℕ) (e : TreeError) → IsPermutation files classes → IsLeastName (StandsTwice classes) name
     → (e ≡ NoMemory) ⊎ (e ≡ Duplicate name) → IsCause files e
 cause_twice files classes name e p l (inl m) = subst (IsCause files) (sym m) tt
-cause_twice files classes name e p l (inr m) = subst (IsCause files) (sym m) (classes, p, l)
+cause_twice files classes name e p l (inr m) = subst (IsCause files) (sym m) (least_twice_of files classes p name l)
 
 pub cause_cycle : (files classes : List ClassFile) (e : TreeError) → IsPermutation files classes → AreOrdered classes
     → (e ≡ NoMemory) ⊎ ((name : List ℕ) × (e ≡ Cycle name) × IsLeastName (IsOwnAncestor classes) name) → IsCause files e
 cause_cycle files classes e p o (inl m) = subst (IsCause files) (sym m) tt
-cause_cycle files classes e p o (inr m) = subst (IsCause files) (sym m.1) (classes, p, distinct classes o, m.2)
+cause_cycle files classes e p o (inr m) = subst (IsCause files) (sym m.1) (distinct_of files classes p (distinct classes o), least_own_of files classes p m.0 m.2)
 
 pub built : {E : Type 0} (files classes : List ClassFile) (r : Result (List ClassFile) E) → IsPermutation files classes → AreOrdered classes
     → IfOk r (λ h. (h ≡ classes) × AreAcyclic classes) → IfOk r (λ h. IsHierarchyOf files h)
@@ -95,7 +114,19 @@ sub_rows_from classes rows subs above len r = record {
       );
 }
 
-pub closed : {E : Type 0} (classes : List ClassFile) (rows : List (Vec ℕ)) (order : List ℕ) (r : Result (Vec (Vec ℕ)) E) → ((a b : ℕ) → HasEdge rows a b ↔ IsAbove classes a b)
-    → length rows ≡ length classes → IsOrder rows order → IfOk r (λ subs. AreRows rows subs.items) → IfOk r (λ subs. AreAcyclic classes × AreSubRows classes subs.items)
-closed classes rows order (Ok subs) above len o is = (acyclic_from classes rows order above o, sub_rows_from classes rows subs.items above len is)
-closed classes rows order (Err e) above len o is = tt
+-- all that is kept
+pub tree_from : (tree : Tree) (classes : List ClassFile) → AreOrdered classes → AreEdges Parents classes tree.parents.edges.items → AreEdges Interfaces classes tree.interfaces.edges.items
+    → IsSearched tree.parents tree.order.items → IsSearched tree.interfaces tree.order.items → AreMembers Field classes tree.fields → AreMembers Method classes tree.methods → tree.classes.items ≡ classes → IsTree tree
+tree_from tree classes o p i ps is fields methods e =
+    let above = edges_above classes tree.parents.edges.items o.order p in
+    record {
+      ordered = subst AreOrdered (sym e) o;
+      acyclic = subst AreAcyclic (sym e) (acyclic_from classes tree.parents.edges.items tree.order.items above ps.back);
+      subs = subst (λ (cs : List ClassFile). AreSubRows cs tree.parents.rows.items) (sym e) (sub_rows_from classes tree.parents.edges.items tree.parents.rows.items above p.len ps.rows);
+      parent_edges = subst (λ (cs : List ClassFile). AreEdges Parents cs tree.parents.edges.items) (sym e) p;
+      interface_edges = subst (λ (cs : List ClassFile). AreEdges Interfaces cs tree.interfaces.edges.items) (sym e) i;
+      parent_search = ps;
+      interface_search = is;
+      fields_are = subst (λ (cs : List ClassFile). AreMembers Field cs tree.fields) (sym e) fields;
+      methods_are = subst (λ (cs : List ClassFile). AreMembers Method cs tree.methods) (sym e) methods;
+    }

@@ -7,17 +7,17 @@ use Rattle.std.proofs.lemmas.Bool.{false≢true}
 use Rattle.std.proofs.lemmas.Cmp.{nat_list_cmp_total, tied_itself, ranked, by_ranked}
 use Rattle.slicer_ids.specs.Order.{BytesBefore}
 
-cases_ordering : (o : Ordering) → (o ≡ Less) ⊎ (o ≡ Equal) ⊎ (o ≡ Greater)
+pub cases_ordering : (o : Ordering) → (o ≡ Less) ⊎ (o ≡ Equal) ⊎ (o ≡ Greater)
 cases_ordering Less = inl refl
 cases_ordering Equal = inr (inl refl)
 cases_ordering Greater = inr (inr refl)
 
-then_equal : (o p : Ordering) → ordering_then o p ≡ Equal → (o ≡ Equal) × (p ≡ Equal)
+pub then_equal : (o p : Ordering) → ordering_then o p ≡ Equal → (o ≡ Equal) × (p ≡ Equal)
 then_equal Less p e = absurd (cc e)
 then_equal Equal p e = (refl, e)
 then_equal Greater p e = absurd (cc e)
 
-same_number : (x y : ℕ) → nat_cmp x y ≡ Equal → x ≡ y
+pub same_number : (x y : ℕ) → nat_cmp x y ≡ Equal → x ≡ y
 same_number x y e = by_ranked _ _ _ (nat_cmp x y) (ranked x y (nat_cmp x y) refl) (λ l h. absurd (cc (sym l ∙ e))) (λ l h. h) (λ g h. absurd (cc (sym g ∙ e)))
 
 -- names that tie are one

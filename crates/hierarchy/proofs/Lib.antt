@@ -3,3 +3,13 @@ pub mod Twice
 pub mod Finding
 pub mod Rows
 pub mod Building
+pub mod Descents
+pub mod Placing
+pub mod Swaps
+pub mod Keys
+pub mod Numbering
+pub mod Chains
+pub mod Resolving
+pub mod Answering
+pub mod Renumbering
+pub mod TestMembers

@@ -1,19 +1,22 @@
 -- The superclass and the interfaces of classes, as numbers.
 use Rattle.std.proofs.Common.{◌≡◌, ℕ, ◌+◌, ◌<◌, ◌≤◌, ◌⊎◌, ◌↔◌, inl, inr, zero, suc, List, [], ◌∷◌, ◌++◌, length, get_or, take, refl, sym, ap, ◌∙◌, subst, arith, Option, Some, None}
-use Rattle.std.specs.Prelude.{Contains, MatchOption}
+use Rattle.std.specs.Prelude.{Contains, MatchOption, All, slice_index}
 use Rattle.std.specs.Global.{Vec}
 use Rattle.std.proofs.lemmas.Bool.{cases_order, cases_lt}
-use Rattle.std.proofs.lemmas.Option.{slice_get_within, get_or_from_slice_get, slice_get_cases}
+use Rattle.std.proofs.lemmas.Option.{slice_get_within, slice_get_read, get_or_from_slice_get, slice_get_cases, slice_get-get_or}
 use Rattle.std.specs.Option.{option_map_or}
-use Rattle.digraph.proofs.Marks.{targets_row}
+use Rattle.digraph.proofs.Marks.{targets_row, node_of_edge}
 use Rattle.std.proofs.lemmas.List.{take_more, take_all, get_or-map, length-map, length-append, get_or_append_left, get_or_push}
-use Rattle.std.proofs.lemmas.List.Elements.{Contains-append_left, Contains-push, Contains-push_cases, Contains-get_or}
+use Rattle.std.proofs.lemmas.List.Elements.{Contains-append_left, Contains-push, Contains-push_cases, Contains-get_or, All-weaker}
 use Rattle.slicer_ids.specs.Order.{BytesBefore}
 use Rattle.class_form.specs.Pools.{class_at}
 use Rattle.class_form.specs.Classes.{class_name, interface_names, IsClass, IsNamed, IsOutside, IsAbove, AreInOrder}
 use Rattle.class_form.specs.declared.class_file.ClassFile.{ClassFile}
-use Rattle.digraph.specs.Graphs.{HasEdge, IsGraph}
-use Rattle.hierarchy.specs.Names.{LeadsTo, LeadsToOne}
+use Rattle.digraph.specs.Graphs.{targets, HasEdge, IsGraph}
+use Rattle.digraph.specs.Orders.{IsOrder}
+use Rattle.hierarchy.specs.declared.parents.Above.{Above}
+use Rattle.hierarchy.specs.declared.parents.Above.TheVariants.{Interfaces, Parents}
+use Rattle.hierarchy.specs.Names.{LeadsTo, LeadsToOne, Leading, no_index, passed_over, leads_there, indices_of, AreEdges, IsSuperOf}
 use Rattle.hierarchy.proofs.Bytes.{not_before_itself}
 
 same_some : (x y : List ℕ) → Some x ≡ Some y → x ≡ y
@@ -42,47 +45,6 @@ pub named_leads : (classes : List ClassFile) (k : ClassFile) (index : ℕ) (name
 named_leads classes k index name None e m = λ c h. m c (subst (λ n. IsNamed classes n c) (same_some h.0 name (sym h.1 ∙ sym e)) h.2)
 named_leads classes k index name (Some c) e m = (name, sym e, m)
 
-pub none_more : (classes : List ClassFile) (k : ClassFile) (index : ℕ) (row : List ℕ) → ((c : ℕ) → LeadsTo classes k index c → ⊥)
-    → (c : ℕ) → Contains row c ↔ (Contains row c ⊎ LeadsTo classes k index c)
-none_more classes k index row no_class c = (λ h. inl h, λ h. elim h [ inl was ↦ was | inr l ↦ absurd (no_class c l) ])
-
-pub one_more : (classes : List ClassFile) (k : ClassFile) (index : ℕ) (row new : List ℕ) (b : ℕ) → AreInOrder classes → LeadsTo classes k index b → new ≡ row ++ b ∷ []
-    → (c : ℕ) → Contains new c ↔ (Contains row c ⊎ LeadsTo classes k index c)
-one_more classes k index row new b o l e c = (
-  λ h. elim (Contains-push_cases row b c (subst (λ xs. Contains xs c) e h)) [ inl was ↦ inl was | inr is ↦ inr (subst (LeadsTo classes k index) is l) ],
-  λ h. subst (λ xs. Contains xs c) (sym e) (elim h [
-    | inl was ↦ Contains-append_left row (b ∷ []) c was
-    | inr m ↦ subst (Contains (row ++ b ∷ [])) (one_leads classes k index b c o l m) (Contains-push row b)
-  ]),
-)
-
--- the row has the classes that these indices name
-pub record IsRow (classes : List ClassFile) (k : ClassFile) (indices row : List ℕ) : Type 0 where
-  pub exact : (c : ℕ) → Contains row c ↔ LeadsToOne classes k indices c
-
-pub row_more : (classes : List ClassFile) (k : ClassFile) (indices row new : List ℕ) (index : ℕ) → IsRow classes k indices row
-    → ((c : ℕ) → Contains new c ↔ (Contains row c ⊎ LeadsTo classes k index c)) → IsRow classes k (indices ++ index ∷ []) new
-row_more classes k indices row new index r h = record {
-  exact = λ c. (
-    λ m. elim ((h c).0 m) [
-      | inl was ↦ let f = (r.exact c).0 was in (f.0, Contains-append_left indices (index ∷ []) f.0 f.1, f.2)
-      | inr l ↦ (index, Contains-push indices index, l)
-    ],
-    λ m. (h c).1 (elim (Contains-push_cases indices index m.0 m.1) [
-      | inl was ↦ inl ((r.exact c).1 (m.0, was, m.2))
-      | inr is ↦ inr (subst (λ i. LeadsTo classes k i c) (sym is) m.2)
-    ]),
-  );
-}
-
-pub row_none : (classes : List ClassFile) (k : ClassFile) (row : List ℕ) → row ≡ [] → IsRow classes k [] row
-row_none classes k row e = record { exact = λ c. (λ h. absurd (omega (arith, (subst (λ xs. Contains xs c) e h).1)), λ h. absurd (omega (arith, h.1.1))) }
-
-pub row_next : (classes : List ClassFile) (k : ClassFile) (super : ℕ) (interfaces row new : List ℕ) (i : ℕ) → i < length interfaces → IsRow classes k (super ∷ take i interfaces) row
-    → ((c : ℕ) → Contains new c ↔ (Contains row c ⊎ LeadsTo classes k (get_or interfaces i 0) c)) → IsRow classes k (super ∷ take (i + 1) interfaces) new
-row_next classes k super interfaces row new i l r h =
-    subst (λ xs. IsRow classes k (super ∷ xs) new) (sym (take_more interfaces i 0 l)) (row_more classes k (super ∷ take i interfaces) row new (get_or interfaces i 0) r h)
-
 -- an interface's name stands in the list of names
 in_names : (k : ClassFile) (index : ℕ) (name : List ℕ) → Contains k.interfaces index → class_at k.pool index ≡ Some name → Contains (interface_names k) (Some name)
 in_names k index name h e =
@@ -100,72 +62,158 @@ Contains-cons_cases x xs y (suc j, l, e) = inr (j, omega arith, e)
 Contains-later : (x : ℕ) (xs : List ℕ) (y : ℕ) → Contains xs y → Contains (x ∷ xs) y
 Contains-later x xs y (j, l, e) = (suc j, omega arith, e)
 
--- the row of a class has the classes above it
-above_from : (classes : List ClassFile) (a b : ℕ) (k : ClassFile) → IsClass classes a k → LeadsToOne classes k (k.super_class ∷ k.interfaces) b → IsAbove classes a b
-above_from classes a b k at m = elim (Contains-cons_cases k.super_class k.interfaces m.0 m.1) [
-  | inl is ↦ (k, m.2.0, at, inl (ap (class_at k.pool) is ∙ m.2.1), m.2.2)
-  | inr among ↦ (k, m.2.0, at, inr (in_names k m.0 m.2.0 among m.2.1), m.2.2)
-]
-
-same_class : (classes : List ClassFile) (a : ℕ) (k j : ClassFile) → IsClass classes a k → IsClass classes a j → k ≡ j
+pub same_class : (classes : List ClassFile) (a : ℕ) (k j : ClassFile) → IsClass classes a k → IsClass classes a j → k ≡ j
 same_class classes a k j h g = sym (get_or_from_slice_get classes a k k h) ∙ get_or_from_slice_get classes a j k g
 
-above_to : (classes : List ClassFile) (a b : ℕ) (k : ClassFile) → IsClass classes a k → IsAbove classes a b → LeadsToOne classes k (k.super_class ∷ k.interfaces) b
-above_to classes a b k at h =
-    subst (λ j. LeadsToOne classes j (j.super_class ∷ j.interfaces) b) (same_class classes a h.0 k h.2 at) (elim h.3 [
-      | inl e ↦ (h.0.super_class, (0, omega arith, refl), (h.1, e, h.4))
-      | inr among ↦ let i = name_in h.0 h.1 among in (i.0, Contains-later h.0.super_class h.0.interfaces i.0 i.1, (h.1, i.2, h.4))
-    ])
+-- one index more
+pub more_passed : (classes : List ClassFile) (k : ClassFile) {is cs : List ℕ} (i : ℕ) → ((c : ℕ) → LeadsTo classes k i c → ⊥) → Leading classes k is cs → Leading classes k (is ++ i ∷ []) cs
+more_passed classes k i never no_index = passed_over never no_index
+more_passed classes k i never (passed_over n l) = passed_over n (more_passed classes k i never l)
+more_passed classes k i never (leads_there h l) = leads_there h (more_passed classes k i never l)
 
--- the rows of the first classes
-pub record AreRows (classes : List ClassFile) (rows : List (Vec ℕ)) (n : ℕ) : Type 0 where
-  pub len : length rows ≡ n
-  pub each : (a : ℕ) (d : Vec ℕ) → a < length rows → (k : ClassFile) × IsClass classes a k × IsRow classes k (k.super_class ∷ k.interfaces) (get_or rows a d).items
+pub more_leads : (classes : List ClassFile) (k : ClassFile) {is cs : List ℕ} (i c : ℕ) → LeadsTo classes k i c → Leading classes k is cs → Leading classes k (is ++ i ∷ []) (cs ++ c ∷ [])
+more_leads classes k i c there no_index = leads_there there no_index
+more_leads classes k i c there (passed_over n l) = passed_over n (more_leads classes k i c there l)
+more_leads classes k i c there (leads_there h l) = leads_there h (more_leads classes k i c there l)
 
-pub rows_more : (classes : List ClassFile) (rows : List (Vec ℕ)) (n : ℕ) (k : ClassFile) (row : Vec ℕ) → AreRows classes rows n → IsClass classes n k
-    → IsRow classes k (k.super_class ∷ k.interfaces) row.items → AreRows classes (rows ++ row ∷ []) (n + 1)
-rows_more classes rows n k row r at is = record {
-  len = omega (arith, length-append rows (row ∷ []), r.len);
-  each = λ a d l. elim (cases_lt a (length rows)) [
-    | inl lt ↦ let e = r.each a d lt in (e.0, e.1, subst (λ (v : Vec ℕ). IsRow classes e.0 (e.0.super_class ∷ e.0.interfaces) v.items) (sym (get_or_append_left rows (row ∷ []) d a lt)) e.2)
-    | inr ge ↦
-        let here : length rows ≡ a = omega (arith, length-append rows (row ∷ [])) in
-        let n_is : n ≡ a = omega (arith, r.len) in
-        (k, subst (λ i. IsClass classes i k) n_is at, subst (λ (v : Vec ℕ). IsRow classes k (k.super_class ∷ k.interfaces) v.items) (sym (get_or_push rows row d a here)) is)
-  ];
-}
+pub pushed_leads : (classes : List ClassFile) (k : ClassFile) (i c : ℕ) (row new : List ℕ) → LeadsTo classes k i c → new ≡ row ++ c ∷ []
+    → (indices : List ℕ) → Leading classes k indices row → Leading classes k (indices ++ i ∷ []) new
+pushed_leads classes k i c row new h e indices l = subst (Leading classes k (indices ++ i ∷ [])) (sym e) (more_leads classes k i c h l)
 
-edge_row : (rows : List (Vec ℕ)) (a b : ℕ) → HasEdge rows a b → (row : Vec ℕ) × (a < length rows) × (get_or rows a row ≡ row) × Contains row.items b
-edge_row rows a b h = elim (slice_get_cases rows a).1 [
-  | inl r ↦ (r.0, r.1, r.3, subst (λ xs. Contains xs b) (ap (λ o. option_map_or (λ (v : Vec ℕ). v.items) o []) r.2) h)
-  | inr none ↦ absurd (omega (arith, ap length (ap (λ o. option_map_or (λ (v : Vec ℕ). v.items) o []) none.1), h.1))
+pub next_leads : (classes : List ClassFile) (k : ClassFile) (indices row new : List ℕ) (i : ℕ) → i < length indices
+    → Leading classes k (take i indices) row → ((is : List ℕ) → Leading classes k is row → Leading classes k (is ++ get_or indices i 0 ∷ []) new) → Leading classes k (take (i + 1) indices) new
+next_leads classes k indices row new i l before step = subst (λ is. Leading classes k is new) (sym (take_more indices i 0 l)) (step (take i indices) before)
+
+pub whole_leads : (classes : List ClassFile) (k : ClassFile) (indices row : List ℕ) (i : ℕ) → length indices ≤ i → Leading classes k (take i indices) row → Leading classes k indices row
+whole_leads classes k indices row i l h = subst (λ is. Leading classes k is row) (take_all i indices l) h
+
+-- the row has the classes that the indices name
+pub leading_to : (classes : List ClassFile) (k : ClassFile) {is cs : List ℕ} → Leading classes k is cs → (c : ℕ) → Contains cs c → LeadsToOne classes k is c
+leading_to classes k no_index c h = absurd (omega (arith, h.1))
+leading_to classes k (passed_over {i} {is} n l) c h = let r = leading_to classes k l c h in (r.0, Contains-later i is r.0 r.1, r.2)
+leading_to classes k (leads_there {i} {c = b} {is} {cs = bs} t l) c h = elim (Contains-cons_cases b bs c h) [
+  | inl e ↦ (i, (0, omega arith, refl), subst (LeadsTo classes k i) e t)
+  | inr m ↦ let r = leading_to classes k l c m in (r.0, Contains-later i is r.0 r.1, r.2)
 ]
 
-row_edge : (rows : List (Vec ℕ)) (a b : ℕ) (row : Vec ℕ) → a < length rows → get_or rows a row ≡ row → Contains row.items b → HasEdge rows a b
-row_edge rows a b row l e h = subst (λ xs. Contains xs b) (sym (targets_row rows a row l (sym e))) h
+pub leading_from : (classes : List ClassFile) (k : ClassFile) {is cs : List ℕ} → AreInOrder classes → Leading classes k is cs → (c : ℕ) → LeadsToOne classes k is c → Contains cs c
+leading_from classes k o no_index c h = absurd (omega (arith, h.1.1))
+leading_from classes k o (passed_over {i} {is} n l) c h = elim (Contains-cons_cases i is h.0 h.1) [
+  | inl e ↦ absurd (n c (subst (λ j. LeadsTo classes k j c) (sym e) h.2))
+  | inr m ↦ leading_from classes k o l c (h.0, m, h.2)
+]
+leading_from classes k o (leads_there {i} {c = b} {is} {cs = bs} t l) c h = elim (Contains-cons_cases i is h.0 h.1) [
+  | inl e ↦ (0, omega arith, one_leads classes k i b c o t (subst (λ j. LeadsTo classes k j c) (sym e) h.2))
+  | inr m ↦ Contains-later b bs c (leading_from classes k o l c (h.0, m, h.2))
+]
 
-pub edges_above : (classes : List ClassFile) (rows : List (Vec ℕ)) → AreRows classes rows (length classes) → (a b : ℕ) → HasEdge rows a b ↔ IsAbove classes a b
-edges_above classes rows r a b = (
-  λ h.
-      let e = edge_row rows a b h in
-      let f = r.each a e.0 e.1 in
-      above_from classes a b f.0 f.1 ((f.2.exact b).0 (subst (λ (v : Vec ℕ). Contains v.items b) (sym e.2) e.3)),
-  λ h.
-      let lt : a < length rows = omega (arith, slice_get_within classes a h.0 h.2, r.len) in
-      elim (slice_get_cases rows a).1 [
-        | inl row ↦
-            let f = r.each a row.0 lt in
-            row_edge rows a b row.0 lt row.3 (subst (λ (v : Vec ℕ). Contains v.items b) row.3 ((f.2.exact b).1 (above_to classes a b f.0 f.1 h)))
-        | inr none ↦ absurd (omega (arith, none.0))
-      ],
+-- the last index leads where the row says
+pub last_leads : (classes : List ClassFile) (k : ClassFile) (is : List ℕ) (i : ℕ) {cs : List ℕ} → Leading classes k (is ++ i ∷ []) cs
+    → (found : Option ℕ) × MatchOption found ((c : ℕ) → LeadsTo classes k i c → ⊥) (λ c. LeadsTo classes k i c)
+last_leads classes k [] i (passed_over n l) = (None, n)
+last_leads classes k [] i (leads_there {c} t l) = (Some c, t)
+last_leads classes k (j ∷ is) i (passed_over n l) = last_leads classes k is i l
+last_leads classes k (j ∷ is) i (leads_there t l) = last_leads classes k is i l
+
+-- the classes that a class names are those above it
+above_from : (classes : List ClassFile) (a b : ℕ) (k : ClassFile) → IsClass classes a k → LeadsToOne classes k (k.interfaces ++ k.super_class ∷ []) b → IsAbove classes a b
+above_from classes a b k at m = elim (Contains-push_cases k.interfaces k.super_class m.0 m.1) [
+  | inl among ↦ (k, m.2.0, at, inr (in_names k m.0 m.2.0 among m.2.1), m.2.2)
+  | inr is ↦ (k, m.2.0, at, inl (ap (class_at k.pool) is ∙ m.2.1), m.2.2)
+]
+
+above_to : (classes : List ClassFile) (a b : ℕ) (k : ClassFile) → IsClass classes a k → IsAbove classes a b → LeadsToOne classes k (k.interfaces ++ k.super_class ∷ []) b
+above_to classes a b k at h =
+    subst (λ (j : ClassFile). LeadsToOne classes j (j.interfaces ++ j.super_class ∷ []) b) (same_class classes a h.0 k h.2 at) (elim h.3 [
+      | inl e ↦ (h.0.super_class, Contains-push h.0.interfaces h.0.super_class, (h.1, e, h.4))
+      | inr among ↦ let i = name_in h.0 h.1 among in (i.0, Contains-append_left h.0.interfaces (h.0.super_class ∷ []) i.0 i.1, (h.1, i.2, h.4))
+    ])
+
+get_or_itself : (rows : List (Vec ℕ)) (a : ℕ) (d : Vec ℕ) → a < length rows → get_or rows a d ≡ get_or rows a (get_or rows a d)
+get_or_itself rows a d l = sym (get_or_from_slice_get rows a (get_or rows a d) (get_or rows a d) (slice_get-get_or rows a d l))
+
+-- the rows of the first classes
+pub record AreEdgesUpTo (above : Above) (classes : List ClassFile) (rows : List (Vec ℕ)) (n : ℕ) : Type 0 where
+  pub len : length rows ≡ n
+  pub each : (a : ℕ) (k : ClassFile) → a < n → IsClass classes a k → Leading classes k (indices_of above k) (targets rows a)
+
+row_before : (rows : List (Vec ℕ)) (row : Vec ℕ) (a : ℕ) → a < length rows → targets (rows ++ row ∷ []) a ≡ targets rows a
+row_before rows row a l = elim (slice_get_cases rows a).1 [
+  | inl r ↦
+      let more = length-append rows (row ∷ []) in
+      let at = slice_get_read (rows ++ row ∷ []) (length (rows ++ row ∷ [])) a r.0 refl (omega (arith, more)) (sym (get_or_append_left rows (row ∷ []) r.0 a l ∙ r.3)) in
+      ap (λ o. option_map_or (λ (v : Vec ℕ). v.items) o []) (at ∙ sym r.2)
+  | inr past ↦ absurd (omega (arith, past.0))
+]
+
+row_here : (rows : List (Vec ℕ)) (row : Vec ℕ) (a : ℕ) → length rows ≡ a → targets (rows ++ row ∷ []) a ≡ row.items
+row_here rows row a e = targets_row (rows ++ row ∷ []) a row (omega (arith, length-append rows (row ∷ []))) (sym (get_or_push rows row row a e))
+
+pub edges_more : (above : Above) (classes : List ClassFile) (rows new : List (Vec ℕ)) (n : ℕ) (k : ClassFile) (row : Vec ℕ) → AreEdgesUpTo above classes rows n → IsClass classes n k
+    → Leading classes k (indices_of above k) row.items → new ≡ rows ++ row ∷ [] → AreEdgesUpTo above classes new (n + 1)
+edges_more above classes rows new n k row r at is e = subst (λ (g : List (Vec ℕ)). AreEdgesUpTo above classes g (n + 1)) (sym e) (record {
+  len = omega (arith, length-append rows (row ∷ []), r.len);
+  each = λ a j l there. elim (cases_lt a n) [
+    | inl lt ↦ subst (Leading classes j (indices_of above j)) (sym (row_before rows row a (omega (arith, r.len)))) (r.each a j lt there)
+    | inr ge ↦
+        let same : n ≡ a = omega arith in
+        let j_is : k ≡ j = same_class classes a k j (subst (λ i. IsClass classes i k) same at) there in
+        subst (Leading classes j (indices_of above j)) (sym (row_here rows row a (omega (arith, r.len)))) (subst (λ (q : ClassFile). Leading classes q (indices_of above q) row.items) j_is is)
+  ];
+})
+
+pub no_edges : (above : Above) (classes : List ClassFile) (rows : List (Vec ℕ)) → rows ≡ [] → AreEdgesUpTo above classes rows 0
+no_edges above classes rows e = record { len = ap length e; each = λ a k l at. absurd (omega (arith, l)) }
+
+pub all_edges : (above : Above) (classes : List ClassFile) (rows : List (Vec ℕ)) (n : ℕ) → length classes ≡ n → AreEdgesUpTo above classes rows n → AreEdges above classes rows
+all_edges above classes rows n e r = record {
+  len = omega (arith, r.len);
+  each = λ a k at. let w = slice_get_within classes a k at in r.each a k (omega (arith, w)) at;
+}
+
+module _ (above : Above) (classes : List ClassFile) (rows : List (Vec ℕ)) (r : AreEdges above classes rows) where
+  -- the class of a row
+  from_class : (a b : ℕ) → HasEdge rows a b → (k : ClassFile) × IsClass classes a k × LeadsToOne classes k (indices_of above k) b
+  from_class a b h =
+      let lt : a < length classes = omega (arith, node_of_edge rows a b h, r.len) in
+      elim (slice_get_cases classes a).1 [
+        | inl c ↦ (c.0, c.2, leading_to classes c.0 (r.each a c.0 c.2) b h)
+        | inr past ↦ absurd (omega (arith, past.0))
+      ]
+
+  pub to_edge : (a b : ℕ) (k : ClassFile) → AreInOrder classes → IsClass classes a k → LeadsToOne classes k (indices_of above k) b → HasEdge rows a b
+  to_edge a b k o at h = leading_from classes k o (r.each a k at) b h
+
+  pub edges_graph : IsGraph rows
+  edges_graph a d l k e lt =
+      let same = targets_row rows a (get_or rows a d) l (get_or_itself rows a d l) in
+      let h : HasEdge rows a (get_or (get_or rows a d).items k e) = subst (λ xs. Contains xs (get_or (get_or rows a d).items k e)) (sym same) (Contains-get_or (get_or rows a d).items k e lt) in
+      let f = from_class a (get_or (get_or rows a d).items k e) h in
+      let w = slice_get_within classes (get_or (get_or rows a d).items k e) f.2.2.2.0 f.2.2.2.1 in
+      omega (arith, w, r.len)
+
+pub edges_above : (classes : List ClassFile) (rows : List (Vec ℕ)) → AreInOrder classes → AreEdges Parents classes rows → (a b : ℕ) → HasEdge rows a b ↔ IsAbove classes a b
+edges_above classes rows o r a b = (
+  λ h. let f = from_class Parents classes rows r a b h in above_from classes a b f.0 f.1 f.2,
+  λ h. to_edge Parents classes rows r a b h.0 o h.2 (above_to classes a b h.0 h.2 h),
 )
 
-pub rows_graph : (classes : List ClassFile) (rows : List (Vec ℕ)) → AreRows classes rows (length classes) → IsGraph rows
-rows_graph classes rows r a d l = λ k e lt.
-    let f = r.each a d l in
-    let m = (f.2.exact (get_or (get_or rows a d).items k e)).0 (Contains-get_or (get_or rows a d).items k e lt) in
-    omega (arith, r.len, slice_get_within classes _ m.2.2.0 m.2.2.1)
+-- the interfaces of a class are among the classes above it
+pub interface_edge : (classes : List ClassFile) (rows all : List (Vec ℕ)) → AreInOrder classes → AreEdges Interfaces classes rows → AreEdges Parents classes all → (a b : ℕ) → HasEdge rows a b → HasEdge all a b
+interface_edge classes rows all o r p a b h =
+    let f = from_class Interfaces classes rows r a b h in
+    to_edge Parents classes all p a b f.0 o f.1 (f.2.0, Contains-append_left f.0.interfaces (f.0.super_class ∷ []) f.2.0 f.2.1, f.2.2)
 
-pub whole_row : (classes : List ClassFile) (k : ClassFile) (super i : ℕ) (interfaces row : List ℕ) → length interfaces ≤ i → IsRow classes k (super ∷ take i interfaces) row
-    → (c : ℕ) → Contains row c ↔ LeadsToOne classes k (super ∷ interfaces) c
-whole_row classes k super i interfaces row l r = (subst (λ xs. IsRow classes k (super ∷ xs) row) (take_all i interfaces l) r).exact
+pub interface_order : (classes : List ClassFile) (rows all : List (Vec ℕ)) (order : List ℕ) → AreInOrder classes → AreEdges Interfaces classes rows → AreEdges Parents classes all → IsOrder all order → IsOrder rows order
+interface_order classes rows all order o r p is = record {
+  nodes = All-weaker (λ n. n < length all) (λ n. n < length rows) (λ n l. omega (arith, l, r.len, p.len)) order is.nodes;
+  whole = λ n l. is.whole n (omega (arith, l, r.len, p.len));
+  back = λ i b l h. is.back i b l (interface_edge classes rows all o r p (slice_index order i) b h);
+}
+
+-- the superclass of a class is above it
+pub super_edge : (classes : List ClassFile) (all : List (Vec ℕ)) → AreInOrder classes → AreEdges Parents classes all → (a b : ℕ) → IsSuperOf classes a (Some b) → HasEdge all a b
+super_edge classes all o p a b h = to_edge Parents classes all p a b h.0 o h.1 (h.0.super_class, Contains-push h.0.interfaces h.0.super_class, h.2)
+
+pub has_super : (classes : List ClassFile) (all : List (Vec ℕ)) → AreEdges Parents classes all → (a : ℕ) (k : ClassFile) → IsClass classes a k → (found : Option ℕ) × IsSuperOf classes a found
+has_super classes all p a k at = let l = last_leads classes k k.interfaces k.super_class (p.each a k at) in (l.0, (k, at, l.1))

@@ -1,3 +1,10 @@
 pub mod Names
 pub mod Trees
 pub mod Causes
+pub mod Visits
+pub mod Searched
+pub mod Places
+pub mod Numbered
+pub mod Finds
+pub mod Selections
+pub mod TestClasses

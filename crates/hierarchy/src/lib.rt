@@ -1,10 +1,13 @@
 //! The classes of a folder in order, what is found in them, and what they select.
 #![tactic(auto)]
 
+mod graph;
+mod look_up;
+mod members;
 mod parents;
 mod sorted;
 #[cfg(test)]
 mod tests;
 pub mod tree;
 
-pub use tree::{Hierarchy, TreeError, build};
+pub use tree::{Hierarchy, Select, TreeError, build};

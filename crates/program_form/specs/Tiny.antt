@@ -1,5 +1,5 @@
 -- The least program: one class, java.lang.Object, with one method, main, that returns at once.
-use Rattle.std.proofs.Common.{◌≡◌, ◌<◌, ◌≤◌, ℕ, zero, suc, List, [], ◌∷◌, Some, codes, slice_get, refl, arith, true, false}
+use Rattle.std.proofs.Common.{◌≡◌, ◌<◌, ◌≤◌, ℕ, zero, suc, [], ◌∷◌, Some, codes, slice_get, refl, arith, true, false}
 use Rattle.slicer_ids.specs.declared.ids.MethodId.{MethodId}
 use Rattle.class_form.specs.Classes.{Declared}
 use Rattle.class_form.specs.declared.pool.Pool.{Pool}

@@ -8,7 +8,7 @@ pub returns : goal.returns
 returns c =
     let a = c.args.a.0 in
     let b = c.args.b.0 in
-    let rows = c.self.inside.rows.items in
+    let rows = c.self.inside.tree.parents.rows.items in
     let same = ap length c.self.view_is in
     let is = c.self.invariant.subs.each a b c.index.result.now
     (slice_get_read rows (length rows) a c.index.result.now refl (omega (arith, same, c.requires.0, c.self.invariant.subs.len)) c.index.ensures)

@@ -1,0 +1,7 @@
+use Rattle.std.proofs.Common.{◌≡◌, ◌++◌, take}
+use Rattle.std.specs.List.{flat_map}
+use Rattle.class_form.specs.Spelling.{spell_handler}
+use Rattle.class_writer.proofs.code.handlers.Given as goal
+
+abbrev pub invariant-loop-next : goal.invariant-loop-next
+invariant-loop-next l = l.output ≡ l.fn.output ++ flat_map spell_handler (take l.next-index l.handlers)

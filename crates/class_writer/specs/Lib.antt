@@ -1,0 +1,5 @@
+pub mod Sizes
+pub mod Spelled
+pub mod Numbers
+pub mod Names
+pub mod Tests

@@ -1,0 +1,2 @@
+pub mod SiteOrder
+pub mod Bringings

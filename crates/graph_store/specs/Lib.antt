@@ -1,0 +1,3 @@
+pub mod Pass
+pub mod Store
+pub mod PassGraphs

@@ -1,0 +1,5 @@
+pub mod Runs
+pub mod OneReach
+pub mod Slots
+pub mod Members
+pub mod OneBody

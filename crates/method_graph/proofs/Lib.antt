@@ -1,0 +1,10 @@
+pub mod Words
+pub mod Following
+pub mod Runs
+pub mod Orders
+pub mod Mapped
+pub mod Between
+pub mod Keeping
+pub mod Described
+pub mod Collected
+pub mod Standing

@@ -1,0 +1,4 @@
+pub mod Coded
+pub mod Octets
+pub mod Narrow
+pub mod OneMain

@@ -1,0 +1,2 @@
+pub mod SmallFacts
+pub mod SmallRow

@@ -1,0 +1,5 @@
+pub mod Starts
+pub mod Widths
+pub mod Apart
+pub mod Moves
+pub mod Knowing

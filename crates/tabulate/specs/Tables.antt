@@ -1,0 +1,39 @@
+-- Tables of rows.
+use Rattle.std.specs.Prelude.{◌≡◌, ◌≢◌, ◌⊎◌, ℕ, ◌+◌, List, All, AllPairs, Contains, map}
+use Rattle.slicer_ids.specs.declared.ids.ExitId.{ExitId}
+use Rattle.slicer_ids.specs.declared.ids.Mode.{Mode}
+use Rattle.slicer_ids.specs.Derivations.{HasDerivation}
+use Rattle.dep_form.specs.declared.facts.Facts.{Facts}
+use Rattle.dep_form.specs.declared.node.Edge.{Edge}
+use Rattle.dep_form.specs.Slices.{ModeEdges}
+use Rattle.dep_form.specs.Summaries.{IsRow, IsDemanded, ModePathEdges, HasSize}
+use Rattle.tabulate.specs.declared.table.Table.{Table}
+
+-- the exits with a row in the table
+abbrev pub exits_of : Table → List ExitId
+exits_of t = map (λ r. r.0) t.rows
+
+abbrev pub HasExit : Table → ExitId → Type 0
+HasExit t d = Contains (exits_of t) d
+
+-- an exit that is in every set with e and with those of the table's exits that it demands
+abbrev pub IsAskedFor : Facts → Mode → ExitId → Table → ExitId → Type 0
+IsAskedFor f mode e t = HasDerivation (λ K d. HasExit t d × ((d ≡ e) ⊎ IsDemanded f (ModeEdges f.inputs mode) K d))
+
+-- the table of an exit. `Had` are the exits with a row to hand before the call, and `Has` those with one after it
+pub record IsTable (f : Facts) (mode : Mode) (e : ExitId) (Had Has : ExitId → Type 0) (t : Table) : Type 0 where
+  pub exit : t.exit ≡ e
+  pub mode_is : t.mode ≡ mode
+  -- the exit's own row is there
+  pub own : HasExit t e
+  -- each exit is there once, with its whole summary
+  pub once : AllPairs (λ a b. a ≢ b) (exits_of t)
+  pub rows : (d : ExitId) (row : List ℕ) → Contains t.rows (d, row) → IsRow f mode d row
+  -- the set of its exits is the least with the exit itself and each that it demands and that has no row to hand
+  pub whole : (d : ExitId) → IsDemanded f (ModeEdges f.inputs mode) (HasExit t) d → HasExit t d ⊎ Has d
+  pub least : (d : ExitId) → HasExit t d → IsAskedFor f mode e t d
+  pub wanting : (d : ExitId) → HasExit t d → (d ≡ e) ⊎ (Had d → ⊥)
+
+-- one turn was taken for each path edge of the table's exits
+abbrev pub IsCounted : Facts → Mode → ℕ → ℕ → Table → Type 0
+IsCounted f mode before after t = (n : ℕ) × HasSize (ModePathEdges f mode (HasExit t)) n × (after ≡ before + n)

@@ -1,0 +1,9 @@
+pub mod Marking
+pub mod Located
+pub mod Needing
+pub mod Ends
+pub mod Callees
+pub mod Stepping
+pub mod Phasing
+pub mod Starting
+pub mod Going
