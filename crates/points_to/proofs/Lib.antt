@@ -1,0 +1,15 @@
+pub mod Cells
+pub mod Choosing
+pub mod Closure
+pub mod Counting
+pub mod Derived
+pub mod Filtering
+pub mod Grouping
+pub mod Listed
+pub mod Listing
+pub mod Looking
+pub mod Moving
+pub mod Slots
+pub mod Soundness
+pub mod Wider
+pub mod Words

@@ -1,0 +1,13 @@
+use Rattle.std.proofs.Common.{take}
+use Rattle.dep_form.specs.declared.system.System.{System}
+use Rattle.points_to.specs.declared.place.Place.TheVariants.{Cell, Written}
+use Rattle.points_to.specs.Items.{Flows, Each, Those, OneOf, IfSome}
+use Rattle.points_to.specs.Rules.{site, field_by, IsArgumentPlace}
+use Rattle.points_to.specs.States.{Moves, IsShape}
+use Rattle.points_to.proofs.outside.fill.Given as goal
+
+abbrev pub invariant-loop-argument : goal.invariant-loop-argument
+invariant-loop-argument l = record {
+  shape : IsShape l.found;
+  moved : (s : System) → Moves s l.initial.found l.found (OneOf (λ i. Those (IsArgumentPlace l.c l.call i) (λ p. Each p (λ b. IfSome (λ f. Flows (Written l.c) (Cell (site b) f)) (field_by l.system l.elements b)))) (take l.argument-index l.arguments));
+}

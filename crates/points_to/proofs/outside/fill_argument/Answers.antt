@@ -1,0 +1,13 @@
+use Rattle.std.proofs.lemmas.Result.{on_ok_weaker}
+use Rattle.points_to.specs.declared.place.Place.TheVariants.{Cell, Written}
+use Rattle.points_to.specs.Items.{Flows, Each, IfSome}
+use Rattle.points_to.specs.Rules.{site, field_by, IsArgumentPlace}
+use Rattle.points_to.proofs.Moving.{Moves-that, Moves-those_none}
+use Rattle.points_to.proofs.Looking.{none_of, some_of, one_of}
+use Rattle.points_to.proofs.outside.fill_argument.Goals as goal
+
+pub returns-in-None-clause-moved : goal.returns-in-None-clause-moved
+returns-in-None-clause-moved c = λ s. Moves-those_none s c.args.found.now (IsArgumentPlace c.args.c c.args.call.now c.args.argument) (λ p. Each p (λ b. IfSome (λ f. Flows (Written c.args.c) (Cell (site b) f)) (field_by c.args.system.now c.args.elements b))) (none_of c.argument_place.result (IsArgumentPlace c.args.c c.args.call.now c.args.argument) c.argument_place.ensures c.in-None.is)
+
+pub returns-in-Some-clause-moved : goal.returns-in-Some-clause-moved
+returns-in-Some-clause-moved c = on_ok_weaker c.fill_place.result (λ m s. Moves-that s c.args.found.now c.fill_place.new.found (IsArgumentPlace c.args.c c.args.call.now c.args.argument) (λ p. Each p (λ b. IfSome (λ f. Flows (Written c.args.c) (Cell (site b) f)) (field_by c.args.system.now c.args.elements b))) c.in-Some.place (some_of c.argument_place.result (IsArgumentPlace c.args.c c.args.call.now c.args.argument) c.in-Some.place c.argument_place.ensures c.in-Some.is) (one_of c.argument_place.result (IsArgumentPlace c.args.c c.args.call.now c.args.argument) c.in-Some.place c.argument_place.ensures c.in-Some.is) (m s)) c.fill_place.ensures.moved

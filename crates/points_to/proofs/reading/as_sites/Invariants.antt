@@ -1,0 +1,10 @@
+use Rattle.std.proofs.Common.{length, ◌≡◌, ◌<◌, ℕ}
+use Rattle.slicer_ids.specs.declared.ids.SiteId.{SiteId}
+use Rattle.std.proofs.Common.{get_or}
+use Rattle.points_to.proofs.reading.as_sites.Given as goal
+
+abbrev pub invariant-loop-number : goal.invariant-loop-number
+invariant-loop-number l = record {
+  len : length l.sites.items ≡ l.number-index;
+  each : (k : ℕ) (d : SiteId) → k < l.number-index → (get_or l.sites.items k d).0 ≡ get_or l.numbers k d.0;
+}
