@@ -3,6 +3,8 @@
 
 mod graph;
 mod look_up;
+#[cfg(test)]
+mod look_up_tests;
 mod members;
 mod parents;
 mod sorted;

@@ -4,7 +4,7 @@ ghost use Rattle.class_form.specs.Classes.{IsStatic};
 ghost use Rattle.class_form.specs.Types.{width};
 ghost use Rattle.class_form.specs.declared.types.MethodType.{MethodType};
 ghost use Rattle.class_form.specs.declared.code_error.CodeError.TheVariants.{NoMemory};
-ghost use Rattle.method_body.specs.Bodies.{HasType, HasRoom, IsReceiver, AreSlotsOf, IsReadable, FitsIn};
+ghost use Rattle.body_form.specs.Bodies.{HasType, HasRoom, IsReceiver, AreSlotsOf, IsReadable, FitsIn};
 
 use class_form::class_file::{CodeBody, Member};
 use class_form::code_error::CodeError;

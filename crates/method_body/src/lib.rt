@@ -2,7 +2,6 @@
 #![tactic(auto)]
 
 mod arguments;
-pub mod laws;
 mod reading;
 #[cfg(test)]
 mod refusals;

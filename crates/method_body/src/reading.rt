@@ -9,7 +9,7 @@ ghost use Rattle.class_form.specs.Reaches.{IsReachOf};
 ghost use Rattle.class_form.specs.declared.body.Body.{Body};
 ghost use Rattle.class_form.specs.declared.code_error.CodeError.{CodeError};
 ghost use Rattle.class_form.specs.declared.code_error.CodeError.TheVariants.{NoMemory, Broken};
-ghost use Rattle.method_body.specs.Bodies.{AreSlotsOf, IsReadable, IsBodyOf, IsFirstFault};
+ghost use Rattle.body_form.specs.Bodies.{AreSlotsOf, IsReadable, IsBodyOf, IsFirstFault};
 
 use crate::arguments::slots_of;
 use bytecode::decode;

@@ -17,8 +17,8 @@ use Rattle.class_form.specs.declared.code_error.CodeError.{CodeError}
 use Rattle.class_form.specs.declared.body.Body.{Body}
 use Rattle.class_form.specs.declared.pool.Pool.{Pool}
 use Rattle.class_form.proofs.Indices.{read_at, there_at}
-use Rattle.method_body.specs.Bodies.{IsBodyOf, IsReadable}
-use Rattle.method_body.proofs.Members.{methods_are_readable}
+use Rattle.body_form.specs.Bodies.{IsBodyOf, IsReadable}
+use Rattle.body_form.proofs.Members.{methods_are_readable}
 use Rattle.refusal_lines.specs.Refusals.{method_refusal}
 use Rattle.program_reader.specs.declared.entries.Entry.{Entry}
 use Rattle.program_reader.specs.Mains.{IsCoded, HasBody, HaveBodiesBefore, IsMainMember, IsFirstBadCode, number_of}

@@ -14,7 +14,7 @@ use Rattle.class_form.proofs.Indices.{index_in, index_at, there_at}
 use Rattle.class_form.proofs.InstrOrder.{in_order}
 use Rattle.class_form.proofs.Follow.{instructions_follow}
 use Rattle.local_slice.specs.Slices.{IsStatement}
-use Rattle.method_body.specs.Bodies.{IsBodyOf}
+use Rattle.body_form.specs.Bodies.{IsBodyOf}
 use Rattle.program_reader.specs.Mains.{IsCoded, number_of}
 use Rattle.program_reader.specs.Entering.{HasOctets}
 use Rattle.program_reader.proofs.Coded.{readable}

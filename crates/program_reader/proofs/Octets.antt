@@ -18,8 +18,8 @@ use Rattle.class_form.specs.declared.class_file.CodeBody.{CodeBody}
 use Rattle.class_form.specs.declared.body.Body.{Body}
 use Rattle.class_form.proofs.Indices.{head_or, there_at}
 use Rattle.class_form.proofs.Flows.{shape_flows}
-use Rattle.method_body.specs.Bodies.{IsBodyOf}
-use Rattle.method_body.proofs.Slots.{are_arguments}
+use Rattle.body_form.specs.Bodies.{IsBodyOf}
+use Rattle.body_form.proofs.Slots.{are_arguments}
 use Rattle.program_reader.specs.Mains.{IsCoded, number_of}
 use Rattle.program_reader.specs.Entering.{HasOctets}
 use Rattle.program_reader.proofs.Coded.{readable}

@@ -21,9 +21,9 @@ use Rattle.class_form.proofs.ClassLaws.{one_value, one_fault, not_both}
 use Rattle.class_form.specs.Reaching.{IsFlow}
 use Rattle.class_form.specs.Reaches.{IsReachOf}
 use Rattle.slicer_ids.specs.Escapes.{printed}
-use Rattle.method_body.specs.Bodies.{IsBodyOf, IsFirstFault}
-use Rattle.method_body.proofs.OneBody.{one_body, no_body}
-use Rattle.method_body.proofs.OneBody as bodies
+use Rattle.body_form.specs.Bodies.{IsBodyOf, IsFirstFault}
+use Rattle.body_form.proofs.OneBody.{one_body, no_body}
+use Rattle.body_form.proofs.OneBody as bodies
 use Rattle.line_numbers.specs.LineTables.{lines_of, IsLineAt, line_in}
 use Rattle.refusal_lines.specs.Refusals.{file_refusal, method_refusal}
 use Rattle.program_reader.specs.declared.entries.Entry.{Entry}

@@ -8,7 +8,7 @@ use Rattle.class_form.specs.declared.class_file.ClassFile.{ClassFile}
 use Rattle.class_form.specs.declared.class_file.Member.{Member}
 use Rattle.class_form.specs.declared.class_file.CodeBody.{CodeBody}
 use Rattle.class_form.specs.declared.code_error.CodeError.{CodeError}
-use Rattle.method_body.specs.Bodies.{IsFirstFault}
+use Rattle.body_form.specs.Bodies.{IsFirstFault}
 use Rattle.refusal_lines.specs.Refusals.{method_refusal}
 use Rattle.program_reader.specs.declared.entries.Entry.{Entry}
 use Rattle.program_reader.specs.Mains.{IsCoded, IsMainMember, IsFirstBadCode, HasInitializer, IsUnbuilt}

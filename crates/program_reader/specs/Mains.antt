@@ -12,7 +12,7 @@ use Rattle.class_form.specs.declared.body.Point.{Point}
 use Rattle.class_form.specs.declared.body.Shape.{Shape}
 use Rattle.class_form.specs.declared.code_error.CodeError.{CodeError}
 use Rattle.line_numbers.specs.LineTables.{lines_of}
-use Rattle.method_body.specs.Bodies.{IsBodyOf, IsFirstFault}
+use Rattle.body_form.specs.Bodies.{IsBodyOf, IsFirstFault}
 
 -- the number of the method at a place of the class's list
 abbrev pub number_of : ℕ → MethodId

@@ -13,7 +13,7 @@ use Rattle.class_form.specs.Reaching.{IsFlow}
 use Rattle.class_form.specs.Reaches.{IsReachOf}
 use Rattle.local_slice.specs.Slices.{IsStatement}
 use Rattle.line_numbers.specs.LineTables.{IsLineAt, line_in}
-use Rattle.method_body.specs.Bodies.{IsBodyOf}
+use Rattle.body_form.specs.Bodies.{IsBodyOf}
 use Rattle.refusal_lines.specs.Refusals.{file_refusal, method_refusal}
 use Rattle.program_reader.specs.declared.program.Program.{Program}
 use Rattle.program_reader.specs.declared.entries.Entry.{Entry}

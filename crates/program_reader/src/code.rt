@@ -4,7 +4,7 @@ ghost use Rattle.class_form.specs.Classes.{HasCode};
 ghost use Rattle.class_form.specs.Pools.{utf_at};
 ghost use Rattle.class_form.specs.declared.class_file.CodeBody.{CodeBody};
 ghost use Rattle.class_form.specs.declared.code_error.CodeError.{CodeError};
-ghost use Rattle.method_body.specs.Bodies.{IsReadable, IsBodyOf, IsFirstFault};
+ghost use Rattle.body_form.specs.Bodies.{IsReadable, IsBodyOf, IsFirstFault};
 ghost use Rattle.refusal_lines.specs.Refusals.{method_refusal};
 
 use crate::error::ProgramError;

@@ -277,6 +277,80 @@ fn other_operands(rt: HostRuntime) -> Result<(), Fail> {
 }
 
 #[test]
+fn commands_in_escapes(rt: HostRuntime) -> Result<(), Fail> {
+    assert_eq!(rt; kind_of(rt.alloc(), b"\\73\\6c\\69\\63\\65")?, 4);
+    assert_eq!(rt; kind_of(rt.alloc(), b" expand\\2dall\t")?, 8);
+    assert_eq!(rt; refusal(rt.alloc(), b"s\\6Cice"), Some(LineError::Unknown));
+    assert_eq!(rt; refusal(rt.alloc(), b"slice\\20"), Some(LineError::Unknown));
+    assert_eq!(rt; refusal(rt.alloc(), b"\\20"), Some(LineError::Unknown));
+    Ok(())
+}
+
+// What an escape stands for begins no further escape.
+#[test]
+fn escapes_once(rt: HostRuntime) -> Result<(), Fail> {
+    assert!(rt;
+        seeds(
+            rt.alloc(),
+            b"seed \\5c2e \\5c41 \\2f\\2E 0",
+            b"\\2e",
+            b"\\41",
+            b"/\\2E",
+            0
+        )?
+    );
+    assert!(rt;
+        seeds(
+            rt.alloc(),
+            b"seed .\\2e. \\0a\\0d \\00\\ff 00000",
+            b"///",
+            b"\n\r",
+            b"\x00\xff",
+            0
+        )?
+    );
+    Ok(())
+}
+
+#[test]
+fn numbers_in_escapes(rt: HostRuntime) -> Result<(), Fail> {
+    let line = parse_line(rt.alloc(), b"seedline A \\3012\\33\\34")?;
+    assert!(rt; is_seed_line(&line, b"A", 1234));
+    assert_eq!(rt;
+        refusal(rt.alloc(), b"seedline A 1\\20"),
+        Some(LineError::BadNumber)
+    );
+    assert_eq!(rt;
+        refusal(rt.alloc(), b"seedline A \\5"),
+        Some(LineError::BadNumber)
+    );
+    assert_eq!(rt;
+        refusal(rt.alloc(), b"seedline A 1\r"),
+        Some(LineError::BadNumber)
+    );
+    Ok(())
+}
+
+// The first rule that a line breaks: the length, the word, the count of words, the number.
+#[test]
+fn first_broken_rules(rt: HostRuntime) -> Result<(), Fail> {
+    assert_eq!(rt;
+        refusal(rt.alloc(), b"seedlines One"),
+        Some(LineError::Unknown)
+    );
+    assert_eq!(rt;
+        refusal(rt.alloc(), b"seedline One 65536 1"),
+        Some(LineError::Arity)
+    );
+    assert_eq!(rt;
+        refusal(rt.alloc(), b"seedline One 99999"),
+        Some(LineError::BadNumber)
+    );
+    assert_eq!(rt; refusal(rt.alloc(), b"\xff"), Some(LineError::Unknown));
+    Ok(())
+}
+
+#[test]
 fn long_lines(rt: HostRuntime) -> Result<(), Fail> {
     let blanks = vec![in rt.alloc(); b' '; 4097]?;
     assert_eq!(rt; refusal(rt.alloc(), &blanks), Some(LineError::TooLong));
@@ -291,5 +365,16 @@ fn long_comments(rt: HostRuntime) -> Result<(), Fail> {
     assert_eq!(rt; refusal(rt.alloc(), &marks), Some(LineError::TooLong));
     let marks = vec![in rt.alloc(); b'#'; 4096]?;
     assert_eq!(rt; kind_of(rt.alloc(), &marks)?, 0);
+    Ok(())
+}
+
+// The longest line and a byte 13 that isn't dropped are one byte too many; within the limit it is a byte of a word.
+#[test]
+fn long_lines_with_a_return(rt: HostRuntime) -> Result<(), Fail> {
+    let mut line = vec![in rt.alloc(); b' '; 4096]?;
+    line[4095] = b'\r';
+    assert_eq!(rt; refusal(rt.alloc(), &line), Some(LineError::Unknown));
+    line.push(b'\r')?;
+    assert_eq!(rt; refusal(rt.alloc(), &line), Some(LineError::TooLong));
     Ok(())
 }

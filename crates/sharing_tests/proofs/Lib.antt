@@ -1,2 +1,5 @@
 pub mod SmallFacts
 pub mod SmallRow
+pub mod PartNodes
+pub mod PartFacts
+pub mod PartInput

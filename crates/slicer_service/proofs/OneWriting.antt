@@ -1,29 +1,35 @@
 -- What was asked has one list of replies, and files with these bytes written at a path are one.
-use Rattle.std.proofs.Common.{◌≡◌, ◌<◌, ℕ, Bool, true, false, List, [], ◌∷◌, refl, sym, ap, subst, ◌∙◌, arith}
+use Rattle.std.proofs.Common.{◌≡◌, ◌<◌, ◌+◌, ℕ, Option, Bool, true, false, List, [], ◌∷◌, refl, sym, ap, subst, ◌∙◌, arith}
 use Rattle.std.specs.Bool.{Decides}
 use Rattle.std.specs.FinMap as map
 use Rattle.std.specs.Str.{bytes_eq}
 use Rattle.std.proofs.lemmas.Slice.Eq.{bytes_eq-Decides}
 use Rattle.slicer_ids.proofs.Ordered.{one_ordered}
 use Rattle.edge_io.specs.Files.{Files}
-use Rattle.small_class.specs.declared.class.SmallClass.{SmallClass}
-use Rattle.straight_code.specs.declared.step.Step.{Step}
-use Rattle.straight_code.specs.Slices.{IsInSlice}
+use Rattle.program_reader.specs.Mains.{Main}
+use Rattle.slicer_ids.specs.Escapes.{printed}
+use Rattle.local_slice.specs.Slices.{IsInSlice}
+use Rattle.line_numbers.specs.LineTables.{IsLineAt}
+use Rattle.line_numbers.proofs.OneLine.{one_line_below}
 use Rattle.slicer_service.specs.Texts.{ok_text, statements_text}
-use Rattle.slicer_service.specs.Small.{AreReplies}
+use Rattle.slicer_service.specs.Scripts.{AreReplies}
 use Rattle.slicer_service.specs.Writing.{Writes}
 
-one_answer : (c : SmallClass) (steps : List Step) (seed : ℕ) (xs ys : List (List ℕ)) → AreReplies c steps seed xs → AreReplies c steps seed ys → xs ≡ ys
-one_answer c steps seed xs ys p q =
-    let e : p.0 ≡ q.0 = one_ordered (λ a b. a < b) (IsInSlice steps seed) p.0 q.0 (λ a b here there lt gt. omega arith) p.1 q.1 in
-    p.2 ∙ ap (λ (pcs : List ℕ). ok_text ∷ statements_text c.name pcs ∷ []) e ∙ sym q.2
+one_source : (lines : List (ℕ × ℕ)) (f g : ℕ → Option ℕ) → ((pc : ℕ) → IsLineAt lines pc (f pc)) → ((pc : ℕ) → IsLineAt lines pc (g pc)) → f ≡ g
+one_source lines f g p q =
+    let at : (pc : ℕ) → f pc ≡ g pc = λ pc. one_line_below lines (pc + 1) (f pc) (g pc) (p pc) (q pc) in
+    λ i pc. at pc i
 
-pub one_replies : (c d : SmallClass) (steps others : List Step) (s t : ℕ) (xs ys : List (List ℕ)) → ((c ≡ d) × (steps ≡ others)) × (s ≡ t)
-    → AreReplies c steps s xs → AreReplies d others t ys → xs ≡ ys
-one_replies c d steps others s t xs ys e p q =
-    let seed : AreReplies d others s ys = subst (λ (n : ℕ). AreReplies d others n ys) (sym e.1) q in
-    let list : AreReplies d steps s ys = subst (λ (l : List Step). AreReplies d l s ys) (sym e.0.1) seed in
-    one_answer c steps s xs ys p (subst (λ (k : SmallClass). AreReplies k steps s ys) (sym e.0.0) list)
+one_answer : (main : Main) (seed : ℕ) (xs ys : List (List ℕ)) → AreReplies main seed xs → AreReplies main seed ys → xs ≡ ys
+one_answer main seed xs ys p q =
+    let e : p.2.0 ≡ q.2.0 = one_ordered (λ a b. a < b) (IsInSlice main.shape seed) p.2.0 q.2.0 (λ a b here there lt gt. omega arith) p.2.1 q.2.1 in
+    let f : p.0 ≡ q.0 = one_source main.lines p.0 q.0 p.1 q.1 in
+    p.2.2 ∙ ap (λ (pcs : List ℕ). ok_text ∷ statements_text (printed main.class) p.0 pcs ∷ []) e ∙ ap (λ (lines : ℕ → Option ℕ). ok_text ∷ statements_text (printed main.class) lines q.2.0 ∷ []) f ∙ sym q.2.2
+
+pub one_replies : (a b : Main) (s t : ℕ) (xs ys : List (List ℕ)) → (a ≡ b) × (s ≡ t) → AreReplies a s xs → AreReplies b t ys → xs ≡ ys
+one_replies a b s t xs ys e p q =
+    let seed : AreReplies b s ys = subst (λ (n : ℕ). AreReplies b n ys) (sym e.1) q in
+    one_answer a s xs ys p (subst (λ (k : Main). AreReplies k s ys) (sym e.0) seed)
 
 at_path : {m a b : Files} {path bytes : List ℕ} → Writes m path bytes a → Writes m path bytes b → (other : List ℕ) (r : Bool) → Decides r (other ≡ path)
     → map.get a other ≡ map.get b other

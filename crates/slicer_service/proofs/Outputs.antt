@@ -1,24 +1,19 @@
 -- The output of a script, from what was written.
-use Rattle.std.proofs.Common.{◌≡◌, ◌≢◌, ◌≤◌, ◌<◌, ◌+◌, ◌-◌, ℕ, suc, Bool, true, false, List, [], ◌∷◌, ◌++◌, length, take, Option, Some, None, IfSome, refl, sym, ap, subst, ◌∙◌, append_assoc, length-append, arith, cond, OnOk, OnErr, Result}
+use Rattle.std.proofs.Common.{◌≡◌, ◌<◌, ◌+◌, ◌-◌, ℕ, Bool, true, false, List, [], ◌∷◌, ◌++◌, length, take, Option, Some, None, IfSome, refl, sym, ap, subst, ◌∙◌, append_assoc, length-append, arith, cond}
 use lib.Dec.{leb}
 use Rattle.std.specs.Option.{option_map}
 use Rattle.std.proofs.lemmas.Bool.{le-leb, lt-leb}
 use Rattle.std.specs.FinMap as map
 use Rattle.std.specs.FinMap.{get-insert}
-use Rattle.std.specs.Ordering.{nat_cmp, eq_by_cmp}
-use Rattle.std.specs.Cmp.Lexicographic.{slice_cmp}
 use Rattle.std.proofs.lemmas.List.{append-nil}
 use Rattle.std.proofs.lemmas.Cmp.{eq_by_cmp_equiv, nat_list_cmp_total}
 use Rattle.std.proofs.Math.Seq.{take-append-add}
-use Rattle.edge_io.specs.declared.host.Entry.{Entry}
 use Rattle.edge_io.specs.declared.host.Entry.TheVariants.{File}
 use Rattle.edge_io.specs.declared.sink.SinkError.{SinkError}
 use Rattle.edge_io.specs.declared.sink.SinkError.TheVariants as refusal
 use Rattle.edge_io.specs.Files.{Files, HasFile, IsFile, IsFolder, file_set}
 use Rattle.edge_io.specs.Reads.{appended}
 use Rattle.edge_io.proofs.Places.{insert_keeps}
-use Rattle.slicer_service.specs.declared.output.Outcome.{Outcome}
-use Rattle.slicer_service.specs.declared.output.Outcome.TheVariants.{Done, Fault, NoMemory}
 use Rattle.slicer_service.specs.declared.output.Delivered.{Delivered}
 use Rattle.slicer_service.specs.Texts.{whole_replies}
 use Rattle.slicer_service.specs.Writing.{Writes}

@@ -1,12 +1,15 @@
 -- The text of a small script, and the part of it that was read.
-use Rattle.std.proofs.Common.{◌≡◌, ◌≤◌, ◌<◌, ◌+◌, ℕ, List, [], ◌∷◌, ◌++◌, length, take, codes, Option, Some, None, IfSome, IfNone, IfOk, Result, Ok, Err, refl, sym, ap, subst, ◌∙◌, append_assoc, arith, take_all, min}
-use Rattle.std.specs.Fmt.{decimal}
+use Rattle.std.proofs.Common.{◌≡◌, ◌≤◌, ℕ, List, [], ◌∷◌, ◌++◌, length, take, codes, Option, Some, None, IfSome, IfNone, IfOk, Result, Ok, Err, sym, ap, subst, ◌∙◌, append_assoc, arith, take_all}
 use Rattle.std.proofs.lemmas.List.{length-take, append_cancel_left, append_cancel_right}
 use Rattle.edge_io.specs.Files.{Files, HasFile}
-use Rattle.small_class.specs.declared.class.SmallClass.{SmallClass}
-use Rattle.straight_code.specs.declared.step.Step.{Step}
-use Rattle.slicer_service.specs.Texts.{line, main_words}
-use Rattle.slicer_service.specs.Small.{IsSmallScript, seed_text}
+use Rattle.slicer_ids.specs.Escapes.{printed}
+use Rattle.class_form.specs.declared.body.Shape.{Shape}
+use Rattle.line_numbers.specs.LineTables.{line_in}
+use Rattle.program_reader.specs.Mains.{Main}
+use Rattle.program_reader.specs.Readings.{IsReadOf}
+use Rattle.program_reader.specs.declared.program.Program.{Program}
+use Rattle.slicer_service.specs.Texts.{main_words}
+use Rattle.slicer_service.specs.Scripts.{IsSmallScript, Asks, AreRepliesWith, AreReplies, seed_text}
 
 -- the end of the first line and the second
 abbrev pub slice_end : List ℕ
@@ -60,23 +63,43 @@ same_digits class other bytes x y same p q =
     append_cancel_right x y slice_end (append_cancel_left main_words (x ++ slice_end) (y ++ slice_end) b)
 
 -- what a request asks for, from the bytes that were read of its script
-pub asked_of : (files : Option Files) (script bytes : List ℕ) (left : Option (List ℕ)) (c : SmallClass) (steps : List Step) (seed : ℕ)
+pub asked_of : (files : Option Files) (script bytes : List ℕ) (left : Option (List ℕ)) (class : List ℕ) (shape : Shape) (seed : ℕ)
     → IfSome files (λ m. (text : List ℕ) × HasFile m script text × (left ≡ Some text)) → IfSome left (λ all. bytes ≡ take 4097 all)
-    → IsSmallScript c steps seed bytes → IfSome files (λ m. (text : List ℕ) × HasFile m script text × IsSmallScript c steps seed text)
-asked_of None script bytes left c steps seed told read small = tt
-asked_of (Some m) script bytes left c steps seed (text, file, is) read small =
+    → IsSmallScript class shape seed bytes → IfSome files (λ m. (text : List ℕ) × HasFile m script text × IsSmallScript class shape seed text)
+asked_of None script bytes left class shape seed told read small = tt
+asked_of (Some m) script bytes left class shape seed (text, file, is) read small =
     let e : bytes ≡ take 4097 text = subst (λ (o : Option (List ℕ)). IfSome o (λ (all : List ℕ). bytes ≡ take 4097 all)) is read in
-    (text, file, subst (λ (t : List ℕ). IsSmallScript c steps seed t) (read_whole bytes text e small.1) small)
+    (text, file, subst (λ (t : List ℕ). IsSmallScript class shape seed t) (read_whole bytes text e small.1) small)
 
 -- a script asks for nothing where the bytes that were read of it ask for nothing
-pub nothing_asked : (files : Option Files) (script bytes : List ℕ) (left : Option (List ℕ)) (c : SmallClass) (steps : List Step)
+pub nothing_asked : (files : Option Files) (script bytes : List ℕ) (left : Option (List ℕ)) (class : List ℕ) (shape : Shape)
     → IfSome files (λ m. (text : List ℕ) × HasFile m script text × (left ≡ Some text)) → IfSome left (λ all. bytes ≡ take 4097 all)
-    → ((seed : ℕ) → IsSmallScript c steps seed bytes → ⊥)
-    → IfSome files (λ m. (text : List ℕ) × HasFile m script text × ((seed : ℕ) → IsSmallScript c steps seed text → ⊥))
-nothing_asked None script bytes left c steps told read none = tt
-nothing_asked (Some m) script bytes left c steps (text, file, is) read none =
+    → ((seed : ℕ) → IsSmallScript class shape seed bytes → ⊥)
+    → IfSome files (λ m. (text : List ℕ) × HasFile m script text × ((seed : ℕ) → IsSmallScript class shape seed text → ⊥))
+nothing_asked None script bytes left class shape told read none = tt
+nothing_asked (Some m) script bytes left class shape (text, file, is) read none =
     let e : bytes ≡ take 4097 text = subst (λ (o : Option (List ℕ)). IfSome o (λ (all : List ℕ). bytes ≡ take 4097 all)) is read in
-    (text, file, λ seed small. none seed (subst (λ (t : List ℕ). IsSmallScript c steps seed t) (sym (small_whole bytes text e small.1)) small))
+    (text, file, λ seed small. none seed (subst (λ (t : List ℕ). IsSmallScript class shape seed t) (sym (small_whole bytes text e small.1)) small))
+
+-- a program that was read asks what its `main` does
+module _ (main : Main) (p : Program) (read : IsReadOf main p) where
+  pub asks_of : (seed : ℕ) (text : List ℕ) → IsSmallScript p.class p.body.shape seed text → Asks main seed text
+  asks_of seed text h = subst (λ (s : Shape). IsSmallScript (printed main.class) s seed text) read.shape (subst (λ (c : List ℕ). IsSmallScript c p.body.shape seed text) read.class h)
+
+  pub asks_back : (seed : ℕ) (text : List ℕ) → Asks main seed text → IsSmallScript p.class p.body.shape seed text
+  asks_back seed text h = subst (λ (c : List ℕ). IsSmallScript c p.body.shape seed text) (sym read.class) (subst (λ (s : Shape). IsSmallScript (printed main.class) s seed text) (sym read.shape) h)
+
+  pub other_told : (files : Option Files) (script : List ℕ) → IfSome files (λ m. (text : List ℕ) × HasFile m script text × ((seed : ℕ) → IsSmallScript p.class p.body.shape seed text → ⊥))
+      → IfSome files (λ m. (text : List ℕ) × HasFile m script text × ((seed : ℕ) → Asks main seed text → ⊥))
+  other_told None script h = tt
+  other_told (Some m) script (text, file, none) = (text, file, λ seed asks. none seed (asks_back seed text asks))
+
+  pub answers_of : (seed : ℕ) (replies : List (List ℕ)) → AreRepliesWith p.class (line_in p.lines) p.body.shape seed replies → AreReplies main seed replies
+  answers_of seed replies h = (
+    line_in p.lines,
+    read.lines,
+    subst (λ (s : Shape). AreRepliesWith (printed main.class) (line_in p.lines) s seed replies) read.shape (subst (λ (c : List ℕ). AreRepliesWith c (line_in p.lines) p.body.shape seed replies) read.class h),
+  )
 
 pub ok_map : {A B : Type 0} (P Q : A → Type 0) (r : Result A B) → ((x : A) → P x → Q x) → IfOk r P → IfOk r Q
 ok_map P Q (Err e) f h = tt

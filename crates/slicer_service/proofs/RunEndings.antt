@@ -1,47 +1,69 @@
 -- How a run ends, from what its steps found.
-use Rattle.std.proofs.Common.{◌≡◌, ◌⊎◌, ℕ, Bool, true, false, List, length, take, Option, Some, None, IfSome, refl, sym, ap, subst, ◌∙◌, inl, inr, arith, take_all}
-use Rattle.std.specs.List.{flat_map}
+use Rattle.std.proofs.Common.{◌≡◌, ◌⊎◌, ℕ, Bool, true, List, take, Option, Some, None, IfSome, refl, sym, ap, subst, ◌∙◌, inl, inr, arith, take_all}
 use Rattle.edge_io.specs.Files.{Files, HasFile, IsFile, IsFolder}
 use Rattle.edge_io.specs.Reads.{appended}
-use Rattle.small_class.specs.declared.class.SmallClass.{SmallClass}
-use Rattle.straight_code.specs.declared.step.Step.{Step}
-use Rattle.slicer_service.specs.declared.output.Outcome.{Outcome}
-use Rattle.slicer_service.specs.declared.output.Outcome.TheVariants.{Done, Fault, NoMemory}
+use Rattle.program_reader.specs.Mains.{Main}
+use Rattle.slicer_service.specs.declared.output.Outcome.TheVariants.{Done, Fault}
 use Rattle.slicer_service.specs.declared.output.Delivered.{Delivered}
 use Rattle.slicer_service.specs.Texts.{not_built_line, host_fault_line, done_line, write_fault_line}
 use Rattle.slicer_service.specs.Writing.{Writes}
-use Rattle.slicer_service.specs.Small.{IsSmallFolder, IsSmallScript}
+use Rattle.slicer_service.specs.Folders.{IsAccepted}
+use Rattle.slicer_service.specs.Folders as folders
+use Rattle.slicer_service.specs.declared.stop.Stop.{Stop}
+use Rattle.slicer_service.specs.declared.stop.Stop.TheVariants.{NotBuilt, Refused}
+use Rattle.line_numbers.specs.LineTables.{line_in}
+use Rattle.program_reader.specs.Readings.{IsReadOf}
+use Rattle.program_reader.specs.declared.program.Program.{Program}
+use Rattle.slicer_service.specs.Scripts.{Asks, IsSmallScript, AreRepliesWith}
+use Rattle.slicer_service.proofs.Requests.{asks_of, answers_of}
 use Rattle.slicer_service.specs.Outputs.{HasOutput, joined}
-use Rattle.slicer_service.specs.Runs.{RunOf, no_folder, other_folder, no_script, other_script, no_output, served, output_of}
-use Rattle.slicer_service.specs.Endings.{IsAnswered, Delivers, RunsAs, KeepsFiles, ReadFaultEnds, WriteFaultEnds}
+use Rattle.slicer_service.specs.Runs.{RunOf, no_folder, refused, no_script, other_script, no_output, served, output_of}
+use Rattle.slicer_service.specs.Endings.{IsAnswered, IsReady, Delivers, RunsAs, KeepsFiles, ReadFaultEnds, WriteFaultEnds}
 
-pub other_folder_told : (files : Option Files) (folder script : List ℕ)
-    → IfSome files (λ m. IsFolder m folder × ((c : SmallClass) (steps : List Step) → IsSmallFolder m folder c steps → ⊥))
-    → IfSome files (λ m. RunOf m folder script 4 not_built_line m)
-other_folder_told None folder script h = tt
-other_folder_told (Some m) folder script h = other_folder h.0 h.1
+pub refused_told : (files : Option Files) (folder script text : List ℕ) → IfSome files (λ m. folders.Refused m folder text) → IfSome files (λ m. RunOf m folder script 4 text m)
+refused_told None folder script text h = tt
+refused_told (Some m) folder script text h = refused h
 
 pub no_folder_told : (files : Option Files) (folder script : List ℕ) → IfSome files (λ m. IsFolder m folder → ⊥)
     → IfSome files (λ m. RunOf m folder script 3 host_fault_line m)
 no_folder_told None folder script h = tt
 no_folder_told (Some m) folder script h = no_folder h
 
-pub other_script_told : (files later : Option Files) (folder script : List ℕ) (c : SmallClass) (steps : List Step) → later ≡ files
-    → IfSome files (λ m. IsSmallFolder m folder c steps)
-    → IfSome later (λ m. (text : List ℕ) × HasFile m script text × ((seed : ℕ) → IsSmallScript c steps seed text → ⊥))
+pub other_script_told : (files later : Option Files) (folder script : List ℕ) (main : Main) → later ≡ files
+    → IfSome files (λ m. IsAccepted m folder main)
+    → IfSome later (λ m. (text : List ℕ) × HasFile m script text × ((seed : ℕ) → Asks main seed text → ⊥))
     → IfSome files (λ m. RunOf m folder script 4 not_built_line m)
-other_script_told None later folder script c steps same small h = tt
-other_script_told (Some m) later folder script c steps same small h =
-    let k = subst (λ (o : Option Files). IfSome o (λ (m : Files). (text : List ℕ) × HasFile m script text × ((seed : ℕ) → IsSmallScript c steps seed text → ⊥))) same h in
-    other_script small k.1 k.2
+other_script_told None later folder script main same accepted h = tt
+other_script_told (Some m) later folder script main same accepted h =
+    let k = subst (λ (o : Option Files). IfSome o (λ (m : Files). (text : List ℕ) × HasFile m script text × ((seed : ℕ) → Asks main seed text → ⊥))) same h in
+    other_script accepted k.1 k.2
 
-pub no_script_told : (files later : Option Files) (folder script : List ℕ) (c : SmallClass) (steps : List Step) → later ≡ files
-    → IfSome files (λ m. IsSmallFolder m folder c steps) → IfSome later (λ m. IsFile m script → ⊥)
+pub no_script_told : (files later : Option Files) (folder script : List ℕ) (main : Main) → later ≡ files
+    → IfSome files (λ m. IsAccepted m folder main) → IfSome later (λ m. IsFile m script → ⊥)
     → IfSome files (λ m. RunOf m folder script 3 host_fault_line m)
-no_script_told None later folder script c steps same small h = tt
-no_script_told (Some m) later folder script c steps same small h =
+no_script_told None later folder script main same accepted h = tt
+no_script_told (Some m) later folder script main same accepted h =
     let k = subst (λ (o : Option Files). IfSome o (λ (m : Files). IsFile m script → ⊥)) same h in
-    no_script small (λ text file. k (text, file))
+    no_script accepted (λ text file. k (text, file))
+
+-- the replies of a program that was read are those to what the script asks for
+pub answered_told : (files later : Option Files) (folder script : List ℕ) (main : Main) (p : Program) (seed : ℕ) (replies : List (List ℕ)) → later ≡ files → IsReadOf main p
+    → IfSome files (λ m. IsAccepted m folder main) → IfSome later (λ m. (text : List ℕ) × HasFile m script text × IsSmallScript p.class p.body.shape seed text)
+    → AreRepliesWith p.class (line_in p.lines) p.body.shape seed replies → IfSome files (λ m. IsAnswered m folder script replies)
+answered_told None later folder script main p seed replies same read accepted asked answers = tt
+answered_told (Some m) later folder script main p seed replies same read accepted asked answers =
+    let k = subst (λ (o : Option Files). IfSome o (λ (m : Files). (text : List ℕ) × HasFile m script text × IsSmallScript p.class p.body.shape seed text)) same asked in
+    record {
+      main = main;
+      seed = seed;
+      asked = record { text = k.0; program = accepted; file = k.1; request = asks_of main p read seed k.0 k.2 };
+      answers = answers_of main p read seed replies answers;
+    }
+
+pub ready_told : (files later : Option Files) (folder script : List ℕ) (main : Main) → later ≡ files → IfSome files (λ m. IsAccepted m folder main) → IfSome later (λ m. IsFile m script)
+    → IfSome files (λ m. IsReady m folder script)
+ready_told None later folder script main same accepted there = tt
+ready_told (Some m) later folder script main same accepted there = (main, accepted, subst (λ (o : Option Files). IfSome o (λ (m : Files). IsFile m script)) same there)
 
 pub delivered_told : (files mid new : Option Files) (folder script out : List ℕ) (replies : List (List ℕ)) (d : Delivered) → mid ≡ files → out ≡ output_of script
     → IfSome files (λ m. IsAnswered m folder script replies) → IfSome mid (λ m. (after : Files) × (new ≡ Some after) × HasOutput m out replies d after)
@@ -89,6 +111,13 @@ made_told (Some m) new later folder script d same made = (made.0, same ∙ made.
 pub unmade_told : (files later : Option Files) (folder script : List ℕ) → later ≡ files → KeepsFiles files later folder script
 unmade_told None later folder script same = tt
 unmade_told (Some m) later folder script same = (m, same, inl refl)
+
+-- what a run that stops refuses: what isn't built yet, or the folder by a line
+pub stopped_told : (files : Option Files) (folder script text : List ℕ) (stop : Stop) → (stop ≡ NotBuilt → IfSome files (λ m. RunOf m folder script 4 not_built_line m))
+    → ((said : List ℕ) → stop ≡ Refused said → IfSome files (λ m. RunOf m folder script 4 said m))
+    → ((stop ≡ NotBuilt) × (text ≡ not_built_line)) ⊎ (stop ≡ Refused text) → IfSome files (λ m. RunOf m folder script 4 text m)
+stopped_told files folder script text stop unbuilt lines (inl h) = subst (λ (t : List ℕ). IfSome files (λ (m : Files). RunOf m folder script 4 t m)) (sym h.1) (unbuilt h.0)
+stopped_told files folder script text stop unbuilt lines (inr e) = lines text e
 
 -- a run that ends before its output leaves the files
 pub runs_as : (files later : Option Files) (said said_after : Option (List ℕ)) (folder script text : List ℕ) (status : ℕ) → later ≡ files

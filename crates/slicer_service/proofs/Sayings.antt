@@ -1,11 +1,12 @@
 -- Two lines one after the other, each said or not.
-use Rattle.std.proofs.Common.{◌≡◌, ◌≢◌, ◌⊎◌, ℕ, List, [], ◌∷◌, ◌++◌, Option, Some, None, refl, sym, ap, subst, ◌∙◌, inl, inr}
+use Rattle.std.proofs.Common.{◌≡◌, ◌≢◌, ◌⊎◌, ℕ, List, [], ◌++◌, Option, Some, None, refl, sym, ap, subst, ◌∙◌, inl, inr}
 use Rattle.std.proofs.lemmas.List.{append-nil, append_assoc}
 use Rattle.edge_io.specs.Reads.{appended}
 use Rattle.slicer_service.specs.declared.ending.Said.{Said}
 use Rattle.slicer_service.specs.declared.ending.Said.TheVariants.{Yes, NoMemory, Fault}
 use Rattle.slicer_service.specs.declared.output.Delivered.{Delivered}
-use Rattle.slicer_service.specs.Endings.{SaysAfter, summary_line}
+use Rattle.slicer_service.specs.Endings.{SaysAfter, SaysFault, SaysBefore, summary_line}
+use Rattle.slicer_service.specs.Folders.{IsRefusalLine}
 use Rattle.slicer_service.specs.Texts.{host_fault_line}
 
 nothing : (before : Option (List ℕ)) → before ≡ appended [] before
@@ -21,6 +22,11 @@ pub said_or_not : (r : Said) (line : List ℕ) (before after : Option (List ℕ)
 said_or_not Yes line before after taken other = (line, taken refl, inl refl)
 said_or_not NoMemory line before after taken other = ([], other (λ e. absurd cc) ∙ nothing before, inr refl)
 said_or_not Fault line before after taken other = ([], other (λ e. absurd cc) ∙ nothing before, inr refl)
+
+-- a line on a refusal, said or not
+pub refusal_said : (status : ℕ) (text line : List ℕ) → IsRefusalLine line → ((status ≡ 4) × (text ≡ line)) ⊎ SaysFault status text → SaysBefore status text
+refusal_said status text line is (inl h) = inr (inl (h.0, subst IsRefusalLine (sym h.1) is))
+refusal_said status text line is (inr f) = inl f
 
 which : (d : Delivered) (first second : List ℕ) → (first ≡ summary_line d.outcome) ⊎ (first ≡ []) → (second ≡ host_fault_line) ⊎ (second ≡ []) → SaysAfter d 3 (first ++ second)
 which d first second (inl p) (inl q) = inr (inr (refl, inr (ap (λ (t : List ℕ). t ++ second) p ∙ ap (λ (t : List ℕ). summary_line d.outcome ++ t) q)))

@@ -1,16 +1,16 @@
 -- How a run ends, seen from its host.
-use Rattle.std.specs.Prelude.{◌≡◌, ◌⊎◌, ℕ, List, [], ◌++◌, Option, Some, IfSome, Bool, true, false}
+use Rattle.std.specs.Prelude.{◌≡◌, ◌⊎◌, ℕ, List, [], ◌++◌, Option, Some, IfSome, Bool, true}
 use Rattle.edge_io.specs.Files.{Files, IsFile}
 use Rattle.edge_io.specs.Reads.{appended}
-use Rattle.small_class.specs.declared.class.SmallClass.{SmallClass}
-use Rattle.straight_code.specs.declared.step.Step.{Step}
+use Rattle.program_reader.specs.Mains.{Main}
 use Rattle.slicer_service.specs.declared.output.Outcome.{Outcome}
 use Rattle.slicer_service.specs.declared.output.Outcome.TheVariants.{Done, Fault, NoMemory}
 use Rattle.slicer_service.specs.declared.output.Delivered.{Delivered}
-use Rattle.slicer_service.specs.Small.{AreReplies, IsSmallFolder}
+use Rattle.slicer_service.specs.Folders.{IsAccepted, IsRefusalLine}
+use Rattle.slicer_service.specs.Scripts.{AreReplies}
 use Rattle.slicer_service.specs.Outputs.{HasOutput, IsNoFault, status_of}
 use Rattle.slicer_service.specs.Runs.{IsAsked, RunOf, output_of}
-use Rattle.slicer_service.specs.Texts.{done_line, read_fault_line, write_fault_line, no_memory_line, usage_line, not_built_line, host_fault_line}
+use Rattle.slicer_service.specs.Texts.{done_line, read_fault_line, write_fault_line, no_memory_line, usage_line, host_fault_line}
 
 -- the run over told files answers, says and leaves what its definition gives
 abbrev pub RunsAs : Option Files → Option Files → Option (List ℕ) → Option (List ℕ) → List ℕ → List ℕ → ℕ → Type 0
@@ -19,11 +19,10 @@ RunsAs files files_after said said_after folder script status =
 
 -- these are the replies to what the script asks for
 pub record IsAnswered (m : Files) (folder script : List ℕ) (replies : List (List ℕ)) : Type 0 where
-  pub class : SmallClass
-  pub steps : List Step
+  pub main : Main
   pub seed : ℕ
-  pub asked : IsAsked m folder script class steps seed
-  pub answers : AreReplies class steps seed replies
+  pub asked : IsAsked m folder script main seed
+  pub answers : AreReplies main seed replies
 
 -- the script was served, and its output has what was written of the replies, as the outcome says
 pub record Delivers (m : Files) (folder script : List ℕ) (d : Delivered) (after : Files) : Type 0 where
@@ -31,9 +30,9 @@ pub record Delivers (m : Files) (folder script : List ℕ) (d : Delivered) (afte
   pub answered : IsAnswered m folder script replies
   pub output : HasOutput m (output_of script) replies d after
 
--- the folder is small, and the script is a file
+-- the folder is accepted, and the script is a file
 abbrev pub IsReady : Files → List ℕ → List ℕ → Type 0
-IsReady m folder script = (c : SmallClass) × (steps : List Step) × IsSmallFolder m folder c steps × IsFile m script
+IsReady m folder script = (main : Main) × IsAccepted m folder main × IsFile m script
 
 -- the line on a session that ended so
 abbrev pub summary_line : Outcome → List ℕ
@@ -57,7 +56,7 @@ SaysFault status text = ((status ≡ 1) × (text ≡ [])) ⊎ ((status ≡ 3) ×
 
 -- what a run has said that made no output
 abbrev pub SaysBefore : ℕ → List ℕ → Type 0
-SaysBefore status text = SaysFault status text ⊎ ((status ≡ 4) × (text ≡ not_built_line)) ⊎ ((status ≡ 5) × (text ≡ read_fault_line 0))
+SaysBefore status text = SaysFault status text ⊎ ((status ≡ 4) × IsRefusalLine text) ⊎ ((status ≡ 5) × (text ≡ read_fault_line 0))
 
 -- what a run has said whose output ended so
 abbrev pub SaysAfter : Delivered → ℕ → List ℕ → Type 0
@@ -66,7 +65,7 @@ SaysAfter d status text =
     ⊎ ((d.closed ≡ true) × (status ≡ status_of d.outcome) × (text ≡ summary_line d.outcome))
     ⊎ ((status ≡ 3) × ((text ≡ summary_line d.outcome) ⊎ (text ≡ summary_line d.outcome ++ host_fault_line)))
 
--- what a run has said: a line on the session only where it came to its output, and then how that ended
+-- what a run has said: a line on the session, but for the one on a read fault, only where it came to its output, and then how that ended
 abbrev pub Says : Option Files → Option Files → List ℕ → List ℕ → Bool → ℕ → List ℕ → Type 0
 Says files files_after folder script steady status text =
     SaysBefore status text ⊎ ((d : Delivered) × Ended files files_after folder script steady d × SaysAfter d status text)

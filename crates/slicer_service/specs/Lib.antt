@@ -1,6 +1,7 @@
 pub mod Words
 pub mod Texts
-pub mod Small
+pub mod Scripts
+pub mod Folders
 pub mod Runs
 pub mod Hosts
 pub mod Outputs

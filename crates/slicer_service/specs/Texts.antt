@@ -1,5 +1,5 @@
 -- What is said and written.
-use Rattle.std.specs.Prelude.{◌≡◌, ℕ, suc, ◌-◌, List, [], ◌∷◌, ◌++◌, length, codes, nat_le, if◌then◌else◌}
+use Rattle.std.specs.Prelude.{ℕ, suc, ◌-◌, List, Option, Some, None, [], ◌∷◌, ◌++◌, length, codes, nat_le, if◌then◌else◌}
 use Rattle.std.specs.List.{flat_map}
 use Rattle.std.specs.Fmt.{decimal}
 
@@ -37,13 +37,18 @@ main_words = codes " main ([Ljava/lang/String;)V "
 abbrev pub ok_text : List ℕ
 ok_text = line (codes "ok")
 
--- a statement of a class's `main`, at a program counter, without a line of source
-abbrev pub statement_line : List ℕ → ℕ → List ℕ
-statement_line class pc = line (class ++ main_words ++ decimal pc ++ codes " -")
+-- a line of source, or none
+abbrev pub source_line : Option ℕ → List ℕ
+source_line None = codes "-"
+source_line (Some n) = decimal n
+
+-- a statement of the `main` of a class that is printed so, at a program counter, with the line of source that it has
+abbrev pub statement_line : List ℕ → (ℕ → Option ℕ) → ℕ → List ℕ
+statement_line class lines pc = line (class ++ main_words ++ decimal pc ++ codes " " ++ source_line (lines pc))
 
 -- the number of the statements, and each
-abbrev pub statements_text : List ℕ → List ℕ → List ℕ
-statements_text class pcs = line (codes "statements " ++ decimal (length pcs)) ++ flat_map (statement_line class) pcs
+abbrev pub statements_text : List ℕ → (ℕ → Option ℕ) → List ℕ → List ℕ
+statements_text class lines pcs = line (codes "statements " ++ decimal (length pcs)) ++ flat_map (statement_line class lines) pcs
 
 -- how many of the replies are whole in their first k bytes
 abbrev pub whole_replies : List (List ℕ) → ℕ → ℕ

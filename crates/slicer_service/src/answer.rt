@@ -1,12 +1,14 @@
 // The replies to a small script.
-ghost use Rattle.std.specs.Prelude.{◌≡◌, ◌<◌, ◌++◌, ◌∷◌, [], OnOk, IfOk, List, length, codes};
+ghost use Rattle.std.specs.Prelude.{◌≡◌, ◌++◌, ◌∷◌, [], OnOk, IfOk, codes};
 ghost use Rattle.std.specs.Fmt.{decimal};
-ghost use Rattle.std.specs.List.{flat_map};
-ghost use Rattle.slicer_service.specs.Small.{AreReplies};
-ghost use Rattle.slicer_service.specs.Texts.{ok_text, statements_text, statement_line};
-ghost use Rattle.straight_code.specs.Slices.{IsPc};
+ghost use Rattle.line_numbers.specs.LineTables.{line_in};
+ghost use Rattle.local_slice.specs.Slices.{IsStatement};
+ghost use Rattle.program_reader.specs.Readings.{IsFollowed};
+ghost use Rattle.slicer_service.specs.Scripts.{AreRepliesWith};
+ghost use Rattle.slicer_service.specs.Texts.{main_words, ok_text, source_line, statements_text, statement_line};
 
-use crate::folder::Program;
+use program_reader::Program;
+use refusal_lines::push_number;
 use slicer_ids::ids::NoMemory;
 use std::alloc::{AllocError, Global};
 
@@ -21,33 +23,34 @@ pub struct Replies {
 
 /// The replies to a script that asks for the slice of a statement.
 pub fn replies_to(alloc: Global, program: &Program, seed: u16) -> Result<Replies, NoMemory>
-    requires { IsPc program.now.body seed }
-    ensures { IfOk result (λ r. AreReplies program.now.class program.now.body seed (r.taken.items ∷ r.statements.items ∷ [])) }
+    requires followed { IsFollowed program.now }
+    requires seed { IsStatement program.now.body.shape seed }
+    ensures { IfOk result (λ r. AreRepliesWith program.now.class (line_in program.now.lines) program.now.body.shape seed (r.taken.items ∷ r.statements.items ∷ [])) }
 {
-    let pcs = program.body.slice(alloc, seed)?;
-    match written(alloc, program.class.name.bytes(), pcs.items()) {
+    let pcs = program.slice(alloc, seed)?;
+    match written(alloc, program, pcs.items()) {
         Ok(replies) => Ok(replies),
         Err(_) => Err(NoMemory),
     }
 }
 
-fn written(alloc: Global, class: &[u8], pcs: &[u16]) -> Result<Replies, AllocError>
+fn written(alloc: Global, program: &Program, pcs: &[u16]) -> Result<Replies, AllocError>
     ensures taken { IfOk result (λ r. r.taken.items ≡ ok_text) }
-    ensures statements { IfOk result (λ r. r.statements.items ≡ statements_text class.now pcs.now) }
+    ensures statements { IfOk result (λ r. r.statements.items ≡ statements_text program.now.class (line_in program.now.lines) pcs.now) }
 {
     let taken = Vec::from_slice(alloc, b"ok\n")?;
-    let statements = statements(alloc, class, pcs)?;
+    let statements = statements(alloc, program, pcs)?;
     Ok(Replies { taken, statements })
 }
 
-fn statements(alloc: Global, class: &[u8], pcs: &[u16]) -> Result<Vec<u8>, AllocError>
-    ensures { IfOk result (λ text. text.items ≡ statements_text class.now pcs.now) }
+fn statements(alloc: Global, program: &Program, pcs: &[u16]) -> Result<Vec<u8>, AllocError>
+    ensures { IfOk result (λ text. text.items ≡ statements_text program.now.class (line_in program.now.lines) pcs.now) }
 {
     let mut text = Vec::from_slice(alloc, b"statements ")?;
-    push_number(alloc, &mut text, pcs.len())?;
+    push_number(alloc, &mut text, pcs.len() as u64)?;
     text.push(b'\n')?;
     for pc in pcs {
-        push_statement(alloc, &mut text, class, *pc)?;
+        push_statement(alloc, &mut text, program, *pc)?;
     }
     Ok(text)
 }
@@ -55,20 +58,39 @@ fn statements(alloc: Global, class: &[u8], pcs: &[u16]) -> Result<Vec<u8>, Alloc
 fn push_statement(
     alloc: Global,
     text: &mut Vec<u8>,
-    class: &[u8],
+    program: &Program,
     pc: u16,
 ) -> Result<(), AllocError>
-    ensures { OnOk result (text.new.items ≡ text.old.items ++ statement_line class.now pc) }
+    ensures { OnOk result (text.new.items ≡ text.old.items ++ statement_line program.now.class (line_in program.now.lines) pc) }
+{
+    push_place(alloc, text, program.class.bytes(), pc)?;
+    push_end(alloc, text, program.line(pc))
+}
+
+// The class, its main and the program counter.
+fn push_place(alloc: Global, text: &mut Vec<u8>, class: &[u8], pc: u16) -> Result<(), AllocError>
+    ensures { OnOk result (text.new.items ≡ text.old.items ++ (class.now ++ main_words ++ decimal pc)) }
 {
     text.extend_from_slice(class)?;
     text.extend_from_slice(b" main ([Ljava/lang/String;)V ")?;
-    push_number(alloc, text, pc as usize)?;
-    text.extend_from_slice(b" -\n")
+    push_number(alloc, text, pc as u64)
 }
 
-fn push_number(alloc: Global, text: &mut Vec<u8>, number: usize) -> Result<(), AllocError>
-    ensures { OnOk result (text.new.items ≡ text.old.items ++ decimal number) }
+// The line of source, and the end of the line.
+fn push_end(alloc: Global, text: &mut Vec<u8>, line: Option<u16>) -> Result<(), AllocError>
+    ensures { OnOk result (text.new.items ≡ text.old.items ++ (codes " " ++ source_line line ++ 10 ∷ [])) }
 {
-    let digits = number.to_string(alloc)?;
-    text.extend_from_slice(digits.as_bytes())
+    text.push(b' ')?;
+    push_source_line(alloc, text, line)?;
+    text.push(b'\n')?;
+    Ok(())
+}
+
+fn push_source_line(alloc: Global, text: &mut Vec<u8>, line: Option<u16>) -> Result<(), AllocError>
+    ensures { OnOk result (text.new.items ≡ text.old.items ++ source_line line) }
+{
+    match line {
+        Some(number) => push_number(alloc, text, number as u64),
+        None => text.extend_from_slice(b"-"),
+    }
 }

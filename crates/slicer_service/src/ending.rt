@@ -2,6 +2,7 @@
 ghost use Rattle.std.specs.Prelude.{◌≡◌, ◌≢◌, ◌≤◌, ◌⊎◌, true, false, ℕ, List};
 ghost use Rattle.edge_io.specs.Faults.{Rose};
 ghost use Rattle.edge_io.specs.Reads.{appended};
+ghost use Rattle.slicer_service.specs.Folders.{IsRefusalLine};
 ghost use Rattle.slicer_service.specs.Hosts.{Goes};
 ghost use Rattle.slicer_service.specs.Endings.{summary_line, SaysFault, SaysBefore, SaysAfter};
 ghost use Rattle.slicer_service.specs.Outputs.{IsFew, status_of};
@@ -96,8 +97,9 @@ fn unread<H: Host>(host: &mut H) -> u8
 
 /// The end of a run that made no output.
 pub fn stopped<H: Host>(host: &mut H, stop: Stop) -> u8
+    requires { (text : List ℕ) → stop ≡ Stop.Refused text → IsRefusalLine text }
     ensures kinds { (result ≡ 1) ⊎ (result ≡ 3) ⊎ (result ≡ 4) ⊎ (result ≡ 5) }
-    ensures refused { result ≡ 4 → (stop ≡ Stop.NotBuilt) × (H.said host.new ≡ appended not_built_line (H.said host.old)) }
+    ensures refused { result ≡ 4 → (text : List ℕ) × (((stop ≡ Stop.NotBuilt) × (text ≡ not_built_line)) ⊎ (stop ≡ Stop.Refused text)) × (H.said host.new ≡ appended text (H.said host.old)) }
     ensures unread { result ≡ 5 → (stop ≡ Stop.Read) × (H.said host.new ≡ appended (read_fault_line 0) (H.said host.old)) }
     ensures fault { result ≡ 3 → (stop ≡ Stop.Host) ⊎ Rose (H.faults host.old) (H.faults host.new) }
     ensures cause { result ≡ 3 → H.steady host.old ≡ true → (stop ≡ Stop.Host) × (H.said host.new ≡ appended host_fault_line (H.said host.old)) }
@@ -109,6 +111,7 @@ pub fn stopped<H: Host>(host: &mut H, stop: Stop) -> u8
         Stop::NoMemory => 1,
         Stop::Host => host_fault(host),
         Stop::NotBuilt => refuse(host, NOT_BUILT, 4),
+        Stop::Refused(line) => refuse(host, line.bytes(), 4),
         Stop::Read => unread(host),
     }
 }

@@ -35,6 +35,7 @@ pub fn deliver<H: Host>(host: &mut H, path: &str, replies: &Replies) -> Result<D
     ensures unmade { OnErr result (H.files host.new ≡ H.files host.old) }
     ensures said { H.said host.new ≡ H.said host.old }
     ensures kinds { OnErr result ((result ≡ Err Stop.NotBuilt → ⊥) × (result ≡ Err Stop.Read → ⊥)) }
+    ensures unrefused { (text : List ℕ) → result ≡ Err (Stop.Refused text) → ⊥ }
     ensures fault { result ≡ Err Stop.Host → Rose (H.faults host.old) (H.faults host.new) }
     ensures cause { result ≡ Err Stop.Host → H.steady host.old ≡ true → IfSome (H.files host.old) (λ m. IsFolder m path.now) }
     ensures unclosed { IfOk result (λ d. d.closed ≡ false → Rose (H.faults host.old) (H.faults host.new)) }
@@ -56,6 +57,7 @@ fn created<H: Host>(host: &mut H, path: &str) -> Result<H::Out, Stop>
     ensures unmade { OnErr result (H.files host.new ≡ H.files host.old) }
     ensures said { H.said host.new ≡ H.said host.old }
     ensures kinds { OnErr result ((result ≡ Err Stop.NotBuilt → ⊥) × (result ≡ Err Stop.Read → ⊥)) }
+    ensures unrefused { (text : List ℕ) → result ≡ Err (Stop.Refused text) → ⊥ }
     ensures fault { result ≡ Err Stop.Host → Rose (H.faults host.old) (H.faults host.new) }
     ensures cause { result ≡ Err Stop.Host → H.steady host.old ≡ true → IfSome (H.files host.old) (λ m. IsFolder m path.now) }
     ensures goes { Goes H.faults H.steady H.source_steady H.sink_steady host.old host.new }

@@ -4,14 +4,15 @@ ghost use Rattle.std.specs.Fmt.{decimal};
 ghost use Rattle.edge_io.specs.Faults.{Rose};
 ghost use Rattle.edge_io.specs.Files.{IsFile, HasFile};
 ghost use Rattle.slicer_service.specs.Hosts.{Goes, Keeps};
-ghost use Rattle.slicer_service.specs.Small.{IsSmallScript, seed_text};
-ghost use Rattle.straight_code.specs.Slices.{IsPc};
+ghost use Rattle.local_slice.specs.Slices.{IsStatement};
+ghost use Rattle.program_reader.specs.Readings.{IsFollowed};
+ghost use Rattle.slicer_service.specs.Scripts.{IsSmallScript, seed_text};
 
-use crate::folder::Program;
 use crate::stop::Stop;
 use edge_io::host::{Host, HostError};
 use edge_io::source::Source;
 use edge_io::whole::{ReadError, read_up_to};
+use program_reader::Program;
 use slicer_ids::ids::NoMemory;
 use slicer_ids::limits::LINE_BYTES;
 use std::alloc::Global;
@@ -23,9 +24,11 @@ pub fn request<H: Host>(
     script: &str,
     program: &Program,
 ) -> Result<u16, Stop>
-    ensures statement { IfOk result (λ seed. IsPc program.now.body seed) }
-    ensures asked { IfOk result (λ seed. IfSome (H.files host.old) (λ m. (text : List ℕ) × HasFile m script.now text × IsSmallScript program.now.class program.now.body seed text)) }
-    ensures other { result ≡ Err Stop.NotBuilt → IfSome (H.files host.old) (λ m. (text : List ℕ) × HasFile m script.now text × ((seed : ℕ) → IsSmallScript program.now.class program.now.body seed text → ⊥)) }
+    requires { IsFollowed program.now }
+    ensures statement { IfOk result (λ seed. IsStatement program.now.body.shape seed) }
+    ensures asked { IfOk result (λ seed. IfSome (H.files host.old) (λ m. (text : List ℕ) × HasFile m script.now text × IsSmallScript program.now.class program.now.body.shape seed text)) }
+    ensures other { result ≡ Err Stop.NotBuilt → IfSome (H.files host.old) (λ m. (text : List ℕ) × HasFile m script.now text × ((seed : ℕ) → IsSmallScript program.now.class program.now.body.shape seed text → ⊥)) }
+    ensures unrefused { (text : List ℕ) → result ≡ Err (Stop.Refused text) → ⊥ }
     ensures fault { result ≡ Err Stop.Host → Rose (H.faults host.old) (H.faults host.new) }
     ensures cause { result ≡ Err Stop.Host → H.steady host.old ≡ true → IfSome (H.files host.old) (λ m. IsFile m script.now → ⊥) }
     ensures unread { result ≡ Err Stop.Read → H.source_steady host.old script.now ≡ true → ⊥ }
@@ -43,6 +46,7 @@ fn opened<H: Host>(host: &mut H, script: &str) -> Result<H::In, Stop>
     ensures tells { IfOk result (λ s. IfSome (H.files host.old) (λ m. (text : List ℕ) × HasFile m script.now text × (H.In.left s ≡ Some text))) }
     ensures steadiness { IfOk result (λ s. H.In.steady s ≡ H.source_steady host.old script.now) }
     ensures kinds { OnErr result ((result ≡ Err Stop.NotBuilt → ⊥) × (result ≡ Err Stop.Read → ⊥)) }
+    ensures unrefused { (text : List ℕ) → result ≡ Err (Stop.Refused text) → ⊥ }
     ensures fault { result ≡ Err Stop.Host → Rose (H.faults host.old) (H.faults host.new) }
     ensures cause { result ≡ Err Stop.Host → H.steady host.old ≡ true → IfSome (H.files host.old) (λ m. IsFile m script.now → ⊥) }
     ensures goes { Goes H.faults H.steady H.source_steady H.sink_steady host.old host.new }
@@ -59,6 +63,7 @@ fn opened<H: Host>(host: &mut H, script: &str) -> Result<H::In, Stop>
 fn text<S: Source>(alloc: Global, source: &mut S) -> Result<Vec<u8>, Stop>
     ensures content { IfOk result (λ v. IfSome (S.left source.old) (λ left. v.items ≡ take 4097 left)) }
     ensures kinds { OnErr result ((result ≡ Err Stop.NotBuilt → ⊥) × (result ≡ Err Stop.Host → ⊥)) }
+    ensures unrefused { (text : List ℕ) → result ≡ Err (Stop.Refused text) → ⊥ }
     ensures unread { result ≡ Err Stop.Read → S.steady source.old ≡ true → ⊥ }
 {
     match read_up_to(alloc, source, LINE_BYTES as usize + 1) {
@@ -70,14 +75,16 @@ fn text<S: Source>(alloc: Global, source: &mut S) -> Result<Vec<u8>, Stop>
 
 // The statement that the bytes ask for, as a small script.
 fn seed(alloc: Global, program: &Program, bytes: &[u8]) -> Result<u16, Stop>
-    ensures found { IfOk result (λ seed. IsSmallScript program.now.class program.now.body seed bytes.now) }
+    requires { IsFollowed program.now }
+    ensures found { IfOk result (λ seed. IsSmallScript program.now.class program.now.body.shape seed bytes.now) }
     ensures kinds { OnErr result ((result ≡ Err Stop.Host → ⊥) × (result ≡ Err Stop.Read → ⊥)) }
-    ensures missed { result ≡ Err Stop.NotBuilt → (seed : ℕ) → IsSmallScript program.now.class program.now.body seed bytes.now → ⊥ }
+    ensures unrefused { (text : List ℕ) → result ≡ Err (Stop.Refused text) → ⊥ }
+    ensures missed { result ≡ Err Stop.NotBuilt → (seed : ℕ) → IsSmallScript program.now.class program.now.body.shape seed bytes.now → ⊥ }
 {
     if bytes.len() > LINE_BYTES as usize {
         return Err(Stop::NotBuilt);
     }
-    match seed_digits(program.class.name.bytes(), bytes) {
+    match seed_digits(program.class.bytes(), bytes) {
         Some(digits) => statement(alloc, program, digits),
         None => Err(Stop::NotBuilt),
     }
@@ -112,9 +119,11 @@ fn before_suffix<'a>(suffix: &[u8], bytes: &'a [u8]) -> Option<&'a [u8]>
 
 // The instruction that the digits name.
 fn statement(alloc: Global, program: &Program, digits: &[u8]) -> Result<u16, Stop>
-    ensures found { IfOk result (λ pc. IsPc program.now.body pc × (digits.now ≡ decimal pc)) }
+    requires { IsFollowed program.now }
+    ensures found { IfOk result (λ pc. IsStatement program.now.body.shape pc × (digits.now ≡ decimal pc)) }
     ensures kinds { OnErr result ((result ≡ Err Stop.Host → ⊥) × (result ≡ Err Stop.Read → ⊥)) }
-    ensures missed { result ≡ Err Stop.NotBuilt → (pc : ℕ) → IsPc program.now.body pc → digits.now ≡ decimal pc → ⊥ }
+    ensures unrefused { (text : List ℕ) → result ≡ Err (Stop.Refused text) → ⊥ }
+    ensures missed { result ≡ Err Stop.NotBuilt → (pc : ℕ) → IsStatement program.now.body.shape pc → digits.now ≡ decimal pc → ⊥ }
 {
     match number(alloc, digits) {
         Ok(Some(pc)) => instruction(program, pc),
@@ -125,9 +134,10 @@ fn statement(alloc: Global, program: &Program, digits: &[u8]) -> Result<u16, Sto
 
 // The program counter, where an instruction begins there.
 fn instruction(program: &Program, pc: u16) -> Result<u16, Stop>
-    ensures { MatchResult result (λ found. IsPc program.now.body pc × (found ≡ pc)) (λ stop. (stop ≡ Stop.NotBuilt) × (IsPc program.now.body pc → ⊥)) }
+    requires { IsFollowed program.now }
+    ensures { MatchResult result (λ found. IsStatement program.now.body.shape pc × (found ≡ pc)) (λ stop. (stop ≡ Stop.NotBuilt) × (IsStatement program.now.body.shape pc → ⊥)) }
 {
-    if program.body.has(pc) {
+    if program.has(pc) {
         Ok(pc)
     } else {
         Err(Stop::NotBuilt)

@@ -39,7 +39,8 @@ pub fn run<R: Threads + Sync, H: Host>(rt: &R, alloc: Global, words: &[String], 
     ensures ends { result ≡ 5 → IsSomeAnd (taken (map string_bytes words.now)) (λ p.
         ReadFaultEnds (H.files host.old) (H.files host.new) (H.said host.old) (H.said host.new) p.0 p.1 (H.source_steady host.old p.1)
         ⊎ WriteFaultEnds (H.files host.old) (H.files host.new) (H.said host.old) (H.said host.new) p.0 p.1 (H.sink_steady host.old (output_of p.1))) }
-    // Every line that is said has its cause too: one on the session only where it came to its output, and then how that ended.
+    // Every line that is said has its cause too: one on the session, but for the one on a read fault, only where it came to its output,
+    // and then how that ended.
     ensures says { (text : List ℕ) × (H.said host.new ≡ appended text (H.said host.old)) × MatchOption (taken (map string_bytes words.now)) (SaysUsage result text)
         (λ p. Says (H.files host.old) (H.files host.new) p.0 p.1 (H.sink_steady host.old (output_of p.1)) result text) }
     // In every run other files keep their contents, and the output has some of the first bytes of the replies, or is as it was.

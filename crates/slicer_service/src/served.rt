@@ -4,6 +4,7 @@ ghost use Rattle.edge_io.specs.Faults.{Rose};
 ghost use Rattle.edge_io.specs.Files.{Files};
 ghost use Rattle.edge_io.specs.Reads.{appended};
 ghost use Rattle.slicer_service.specs.Endings.{IsAnswered, IsReady, Delivers, RunsAs, Says, KeepsFiles, ReadFaultEnds, WriteFaultEnds};
+ghost use Rattle.slicer_service.specs.Folders.{IsRefusalLine};
 ghost use Rattle.slicer_service.specs.Hosts.{Goes, Keeps};
 ghost use Rattle.slicer_service.specs.Outputs.{IsFew, IsNoFault, texts_of};
 ghost use Rattle.slicer_service.specs.Runs.{RunOf, output_of};
@@ -52,6 +53,8 @@ fn attended<H: Host>(
     ensures unmade { OnErr result (H.files host.new ≡ H.files host.old) }
     ensures said { H.said host.new ≡ H.said host.old }
     ensures not_built { result ≡ Err Stop.NotBuilt → IfSome (H.files host.old) (λ m. RunOf m folder.now script.now 4 not_built_line m) }
+    ensures refused { (text : List ℕ) → result ≡ Err (Stop.Refused text) → IfSome (H.files host.old) (λ m. RunOf m folder.now script.now 4 text m) }
+    ensures line { (text : List ℕ) → result ≡ Err (Stop.Refused text) → IsRefusalLine text }
     ensures fault { result ≡ Err Stop.Host → Rose (H.faults host.old) (H.faults host.new) }
     ensures cause { result ≡ Err Stop.Host → H.steady host.old ≡ true → IfSome (H.files host.old) (λ m. RunOf m folder.now script.now 3 host_fault_line m) }
     ensures unread { result ≡ Err Stop.Read → H.source_steady host.old script.now ≡ true → ⊥ }
@@ -79,6 +82,8 @@ fn prepare<H: Host>(
     ensures answered { IfOk result (λ p. IfSome (H.files host.old) (λ m. IsAnswered m folder.now script.now (texts_of p.replies))) }
     ensures output { IfOk result (λ p. string_bytes p.output ≡ output_of script.now) }
     ensures not_built { result ≡ Err Stop.NotBuilt → IfSome (H.files host.old) (λ m. RunOf m folder.now script.now 4 not_built_line m) }
+    ensures refused { (text : List ℕ) → result ≡ Err (Stop.Refused text) → IfSome (H.files host.old) (λ m. RunOf m folder.now script.now 4 text m) }
+    ensures line { (text : List ℕ) → result ≡ Err (Stop.Refused text) → IsRefusalLine text }
     ensures fault { result ≡ Err Stop.Host → Rose (H.faults host.old) (H.faults host.new) }
     ensures cause { result ≡ Err Stop.Host → H.steady host.old ≡ true → IfSome (H.files host.old) (λ m. RunOf m folder.now script.now 3 host_fault_line m) }
     ensures unread { result ≡ Err Stop.Read → H.source_steady host.old script.now ≡ true → ⊥ }

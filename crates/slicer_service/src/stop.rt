@@ -1,19 +1,21 @@
 // Why a run ends before it makes its output.
 
-use edge_io::host::HostError;
-use slicer_ids::ids::NoMemory;
+use slicer_ids::name::Name;
 use thiserror::Error;
 
 /// What ends a run before its output is made.
-#[derive(Clone, Copy, Debug, Drop, PartialEq, Eq, Error)]
+#[derive(Debug, Drop, Error)]
 pub enum Stop {
     #[error("no memory")]
     NoMemory,
     #[error("the host failed")]
     Host,
-    /// The folder or the script is not of the small form.
+    /// What the folder or the script asks for isn't built yet.
     #[error("not built yet")]
     NotBuilt,
+    /// The folder is refused, and this line is said.
+    #[error("refused")]
+    Refused(Name),
     #[error("the script's source failed")]
     Read,
 }

@@ -16,6 +16,10 @@ const HEAD: &[u8] =
 // The code of the first example, and its script.
 const CODE: &[u8] = b"\x05\x04\x60\x3c\x1b\x3d\xb1";
 
+// A class `A b` with the code of the first example. Line 4 begins at 0, and lines 5 and 6 both at 4.
+const LINED: &[u8] =
+    b"\xca\xfe\xba\xbe\x00\x00\x00\x33\x00\x09\x01\x00\x03A b\x07\x00\x01\x01\x00\x10java/lang/Object\x07\x00\x03\x01\x00\x04main\x01\x00\x16([Ljava/lang/String;)V\x01\x00\x04Code\x01\x00\x0fLineNumberTable\x00\x21\x00\x02\x00\x04\x00\x00\x00\x00\x00\x01\x00\x09\x00\x05\x00\x06\x00\x01\x00\x07\x00\x00\x00\x27\x00\x02\x00\x03\x00\x00\x00\x07\x05\x04\x60\x3c\x1b\x3d\xb1\x00\x00\x00\x01\x00\x08\x00\x00\x00\x0e\x00\x03\x00\x00\x00\x04\x00\x04\x00\x05\x00\x04\x00\x06\x00\x00";
+
 const SCRIPT: &[u8] = b"seed One main ([Ljava/lang/String;)V 5\nslice\n";
 
 const DONE: &[u8] = b"session 1 done 2 replies\n";
@@ -30,18 +34,33 @@ struct Ended {
     output: Option<Vec<u8>>,
 }
 
-fn class_of(alloc: Global, code: &[u8], max_stack: u8, max_locals: u8) -> Result<Vec<u8>, Fail> {
+// The class with this code, and what stands behind its code: the exception table and the attributes.
+fn class_with(
+    alloc: Global,
+    code: &[u8],
+    max_stack: u8,
+    max_locals: u8,
+    behind: &[u8],
+) -> Result<Vec<u8>, Fail> {
     let Ok(length) = u8::try_from(code.len()) else {
         return Err("code".into());
     };
-    let Some(whole) = length.checked_add(12) else {
+    let Ok(rest) = u8::try_from(behind.len()) else {
+        return Err("table".into());
+    };
+    let Some(whole) = length.saturating_add(8).checked_add(rest) else {
         return Err("code".into());
     };
     let mut bytes = Vec::from_slice(alloc, HEAD)?;
     bytes.extend_from_slice(&[0, 0, 0, whole, 0, max_stack, 0, max_locals, 0, 0, 0, length])?;
     bytes.extend_from_slice(code)?;
-    bytes.extend_from_slice(&[0, 0, 0, 0, 0, 0])?;
+    bytes.extend_from_slice(behind)?;
+    bytes.extend_from_slice(&[0, 0])?;
     Ok(bytes)
+}
+
+fn class_of(alloc: Global, code: &[u8], max_stack: u8, max_locals: u8) -> Result<Vec<u8>, Fail> {
+    class_with(alloc, code, max_stack, max_locals, &[0, 0, 0, 0])
 }
 
 fn plan(alloc: Global, host: &[u64], reads: &[u64], writes: &[u64]) -> Result<FailPlan, Fail> {
@@ -243,21 +262,171 @@ fn other_scripts_are_not_built_yet(rt: HostRuntime) -> Result<(), Fail> {
     Ok(())
 }
 
-// Codes that are not straight: a branch, an operand that is not there, a second return, no local for the argument.
+// Whether a run over the class says this, with status 4, and writes nothing.
+fn is_refused<R: Threads + Sync>(
+    rt: &R,
+    alloc: Global,
+    class: &[u8],
+    said: &[u8],
+) -> Result<bool, Fail> {
+    let trial = served(rt, alloc, class, SCRIPT)?;
+    Ok(trial.status == 4 && trial.said.as_slice() == said && trial.output.is_none())
+}
+
+// A new object.
 #[test]
-fn other_classes_are_not_built_yet(rt: HostRuntime) -> Result<(), Fail> {
-    for (code, max_locals) in [
-        (b"\xa7\x00\x03\xb1".as_slice(), 3),
-        (b"\x60\xb1".as_slice(), 3),
-        (b"\xb1\xb1".as_slice(), 3),
-        (b"\xb1".as_slice(), 0),
-    ] {
-        let class = class_of(rt.alloc(), code, 2, max_locals)?;
-        let trial = served(&rt, rt.alloc(), &class, SCRIPT)?;
-        assert_eq!(rt; trial.status, 4);
-        assert_eq!(rt; trial.said.as_slice(), NOT_BUILT);
-        assert!(rt; trial.output.is_none());
-    }
+fn objects_are_not_built_yet(rt: HostRuntime) -> Result<(), Fail> {
+    let object = class_of(rt.alloc(), b"\xbb\x00\x02\x57\xb1", 1, 1)?;
+    assert!(rt; is_refused(&rt, rt.alloc(), &object, NOT_BUILT)?);
+    Ok(())
+}
+
+// A method that is `main` no longer, since it is not static.
+#[test]
+fn a_class_without_main_is_not_built_yet(rt: HostRuntime) -> Result<(), Fail> {
+    let mut instance = class_of(rt.alloc(), CODE, 2, 3)?;
+    assert!(rt; instance.len() > 93);
+    instance[93] = 1;
+    assert!(rt; is_refused(&rt, rt.alloc(), &instance, NOT_BUILT)?);
+    Ok(())
+}
+
+// An addition with nothing on the stack.
+#[test]
+fn a_stack_that_is_too_low_is_refused(rt: HostRuntime) -> Result<(), Fail> {
+    let shallow = class_of(rt.alloc(), b"\x60\xb1", 2, 3)?;
+    let line = b"refused One.class method main ([Ljava/lang/String;)V code rule 9 at pc 0\n";
+    assert!(rt; is_refused(&rt, rt.alloc(), &shallow, line)?);
+    Ok(())
+}
+
+#[test]
+fn a_subroutine_is_refused(rt: HostRuntime) -> Result<(), Fail> {
+    let subroutine = class_of(rt.alloc(), b"\xa8\x00\x03\xb1", 2, 3)?;
+    let line = b"refused One.class method main ([Ljava/lang/String;)V jsr at pc 0\n";
+    assert!(rt; is_refused(&rt, rt.alloc(), &subroutine, line)?);
+    Ok(())
+}
+
+#[test]
+fn a_file_that_is_cut_short_is_refused(rt: HostRuntime) -> Result<(), Fail> {
+    let one = class_of(rt.alloc(), CODE, 2, 3)?;
+    assert!(rt; one.len() == 127);
+    let line = b"refused One.class truncated\n";
+    assert!(rt; is_refused(&rt, rt.alloc(), &one[..9], line)?);
+    Ok(())
+}
+
+#[test]
+fn a_file_with_a_byte_more_is_refused(rt: HostRuntime) -> Result<(), Fail> {
+    let mut one = class_of(rt.alloc(), CODE, 2, 3)?;
+    one.push(0)?;
+    let line = b"refused One.class trailing bytes at 127\n";
+    assert!(rt; is_refused(&rt, rt.alloc(), &one, line)?);
+    Ok(())
+}
+
+#[test]
+fn a_file_of_a_later_version_is_refused(rt: HostRuntime) -> Result<(), Fail> {
+    let mut one = class_of(rt.alloc(), CODE, 2, 3)?;
+    assert!(rt; one.len() > 7);
+    one[7] = 0x35;
+    assert!(rt; is_refused(&rt, rt.alloc(), &one, b"refused One.class version 53\n")?);
+    Ok(())
+}
+
+#[test]
+fn a_file_with_another_magic_number_is_refused(rt: HostRuntime) -> Result<(), Fail> {
+    let mut one = class_of(rt.alloc(), CODE, 2, 3)?;
+    assert!(rt; one.len() > 0);
+    one[0] = 0;
+    let line = b"refused One.class not a class file\n";
+    assert!(rt; is_refused(&rt, rt.alloc(), &one, line)?);
+    Ok(())
+}
+
+// No local for the argument of `main`, whose bytes begin at 92.
+#[test]
+fn a_method_without_room_for_its_argument_is_refused(rt: HostRuntime) -> Result<(), Fail> {
+    let narrow = class_of(rt.alloc(), b"\xb1", 0, 0)?;
+    let line = b"refused One.class broken rule 17 at 92\n";
+    assert!(rt; is_refused(&rt, rt.alloc(), &narrow, line)?);
+    Ok(())
+}
+
+// Whether a script for a statement is served, with this output.
+fn has_slice<R: Threads + Sync>(
+    rt: &R,
+    alloc: Global,
+    class: &[u8],
+    script: &[u8],
+    output: &[u8],
+) -> Result<bool, Fail> {
+    let trial = served(rt, alloc, class, script)?;
+    Ok(trial.status == 0 && has_output(&trial, output))
+}
+
+// A constant, doubled on the stack, goes to two locals, and back from the first: dup2 and the second store are left out.
+#[test]
+fn a_slice_follows_moves_of_slots(rt: HostRuntime) -> Result<(), Fail> {
+    let class = class_of(rt.alloc(), b"\x0a\x5c\x40\x42\x1f\x88\x36\x05\xb1", 4, 6)?;
+    let script = b"seed One main ([Ljava/lang/String;)V 6\nslice\n";
+    let output =
+        b"ok\nstatements 5\nOne main ([Ljava/lang/String;)V 0 -\nOne main ([Ljava/lang/String;)V 2 -\nOne main ([Ljava/lang/String;)V 4 -\nOne main ([Ljava/lang/String;)V 5 -\nOne main ([Ljava/lang/String;)V 6 -\n";
+    assert!(rt; has_slice(&rt, rt.alloc(), &class, script, output)?);
+    Ok(())
+}
+
+// A local is written again in one branch; both values come to where the branches meet.
+#[test]
+fn a_slice_follows_branches(rt: HostRuntime) -> Result<(), Fail> {
+    let class = class_of(
+        rt.alloc(),
+        b"\x04\x3c\x1b\x99\x00\x08\x05\x3c\xa7\x00\x03\x1b\x3d\xb1",
+        1,
+        3,
+    )?;
+    let script = b"seed One main ([Ljava/lang/String;)V 12\nslice\n";
+    let output =
+        b"ok\nstatements 6\nOne main ([Ljava/lang/String;)V 0 -\nOne main ([Ljava/lang/String;)V 1 -\nOne main ([Ljava/lang/String;)V 6 -\nOne main ([Ljava/lang/String;)V 7 -\nOne main ([Ljava/lang/String;)V 11 -\nOne main ([Ljava/lang/String;)V 12 -\n";
+    assert!(rt; has_slice(&rt, rt.alloc(), &class, script, output)?);
+    Ok(())
+}
+
+// The second store is covered by a handler, which reads the local: it may have the first value or the second.
+#[test]
+fn a_slice_follows_handlers(rt: HostRuntime) -> Result<(), Fail> {
+    let class = class_with(
+        rt.alloc(),
+        b"\x04\x3c\x05\x3c\xb1\x4d\x1b\x3e\xb1",
+        1,
+        4,
+        b"\x00\x01\x00\x02\x00\x05\x00\x05\x00\x00\x00\x00",
+    )?;
+    let script = b"seed One main ([Ljava/lang/String;)V 7\nslice\n";
+    let output =
+        b"ok\nstatements 6\nOne main ([Ljava/lang/String;)V 0 -\nOne main ([Ljava/lang/String;)V 1 -\nOne main ([Ljava/lang/String;)V 2 -\nOne main ([Ljava/lang/String;)V 3 -\nOne main ([Ljava/lang/String;)V 6 -\nOne main ([Ljava/lang/String;)V 7 -\n";
+    assert!(rt; has_slice(&rt, rt.alloc(), &class, script, output)?);
+    Ok(())
+}
+
+// The blank in the class's name is printed as an escape; of two lines that begin at one place the later one counts.
+#[test]
+fn statements_have_their_lines(rt: HostRuntime) -> Result<(), Fail> {
+    let script = b"seed A\\20b main ([Ljava/lang/String;)V 5\nslice\n";
+    let output =
+        b"ok\nstatements 6\nA\\20b main ([Ljava/lang/String;)V 0 4\nA\\20b main ([Ljava/lang/String;)V 1 4\nA\\20b main ([Ljava/lang/String;)V 2 4\nA\\20b main ([Ljava/lang/String;)V 3 4\nA\\20b main ([Ljava/lang/String;)V 4 6\nA\\20b main ([Ljava/lang/String;)V 5 6\n";
+    assert!(rt; has_slice(&rt, rt.alloc(), LINED, script, output)?);
+    Ok(())
+}
+
+// A name is written as it is printed.
+#[test]
+fn a_name_without_its_escapes_is_not_built_yet(rt: HostRuntime) -> Result<(), Fail> {
+    let script = b"seed A b main ([Ljava/lang/String;)V 5\nslice\n";
+    let trial = served(&rt, rt.alloc(), LINED, script)?;
+    assert_eq!(rt; trial.status, 4);
+    assert_eq!(rt; trial.said.as_slice(), NOT_BUILT);
     Ok(())
 }
 

@@ -1,12 +1,11 @@
 -- No two words of rows are one.
-use Rattle.std.proofs.Common.{◌≡◌, ℕ, suc, ◌+◌, ◌<◌, ◌≤◌, length, refl, arith, sym, ap, ◌∙◌, subst}
+use Rattle.std.proofs.Common.{◌≡◌, ℕ, suc, ◌+◌, ◌<◌, ◌≤◌, length, refl, arith, ap, subst}
 use Rattle.std.proofs.lemmas.List.{length-map}
-use Rattle.std.specs.Prelude.{slice_index}
 use Rattle.slicer_ids.specs.declared.ids.ExitId.{ExitId}
 use Rattle.slicer_ids.specs.declared.ids.Mode.{Mode}
 use Rattle.slicer_ids.specs.declared.ids.Mode.TheVariants.{Thin, Full}
 use Rattle.dep_form.specs.declared.facts.Facts.{Facts}
-use Rattle.summary_memo.specs.Places.{widths, width, before, mode_words, begin_of, gate_of, data_of, memo_words, words_for, formals_at}
+use Rattle.summary_memo.specs.Places.{widths, width, before, mode_words, gate_of, data_of, memo_words, words_for, formals_at}
 use Rattle.summary_memo.proofs.Starts.{one_row, inside}
 
 pub one_width_each : (f : Facts) → length (widths f) ≡ length f.exits

@@ -9,7 +9,7 @@ use Rattle.slicer_ids.specs.declared.ids.Mode.{Mode}
 use Rattle.dep_form.specs.declared.facts.Facts.{Facts}
 use Rattle.dep_form.specs.Summaries.{Summary, IsRow}
 use Rattle.summary_memo.specs.declared.view.View.{View}
-use Rattle.summary_memo.specs.Places.{gate_of, data_of, width}
+use Rattle.summary_memo.specs.Places.{gate_of, data_of}
 use Rattle.summary_memo.specs.Rule.{KnowsShut, KnowsAll, Knows, LooksOnce, both}
 use Rattle.summary_memo.proofs.Widths.{within_width}
 

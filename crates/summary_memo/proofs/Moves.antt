@@ -1,5 +1,5 @@
 -- Each step keeps the rule.
-use Rattle.std.proofs.Common.{◌≡◌, ◌≢◌, ◌⊎◌, ℕ, suc, ◌+◌, ◌*◌, ◌/◌, ◌%◌, ◌<◌, ◌≤◌, List, [], ◌∷◌, ◌++◌, length, set, bit_or, get_or, Option, Some, refl, sym, ap, ◌∙◌, subst, ⊎_elim, arith, length-set, get_or-set_same, get_or-set_other, replicate}
+use Rattle.std.proofs.Common.{◌≡◌, ◌≢◌, ◌⊎◌, ℕ, ◌+◌, ◌*◌, ◌/◌, ◌%◌, ◌<◌, List, [], ◌∷◌, ◌++◌, length, set, bit_or, get_or, Option, Some, refl, sym, ap, ◌∙◌, subst, ⊎_elim, arith, length-set, get_or-set_same, get_or-set_other}
 use Rattle.std.specs.Prelude.{Contains, slice_index, unwrap_or}
 use Rattle.std.specs.Int.{bit_at}
 use Rattle.std.proofs.lemmas.Nat.{le_or_l, le_or_r}
@@ -18,7 +18,7 @@ use Rattle.slicer_ids.specs.declared.ids.Mode.{Mode}
 use Rattle.dep_form.specs.declared.facts.Facts.{Facts}
 use Rattle.dep_form.specs.Summaries.{Summary, IsMask}
 use Rattle.summary_memo.specs.declared.view.View.{View}
-use Rattle.summary_memo.specs.Places.{gate_of, data_of, width, memo_words}
+use Rattle.summary_memo.specs.Places.{gate_of, data_of, width}
 use Rattle.summary_memo.specs.Rule.{spent, both, KnowsShut, KnowsAll, IsTold, IsKept, Looked, Masked, Offered, Shutted}
 use Rattle.summary_memo.proofs.Apart.{gate_in, data_in, past_none, same_gate, same_data, gate_is_no_data}
 

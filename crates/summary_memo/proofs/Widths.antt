@@ -1,9 +1,8 @@
 -- How many data words the row of an exit has, as a number and as a relation.
-use Rattle.std.proofs.Common.{◌≡◌, ◌<◌, ◌≤◌, ◌+◌, ◌*◌, ◌/◌, ◌-◌, ◌^◌, ℕ, zero, suc, List, [], ◌∷◌, length, take, get_or, Bool, true, false, cond, Option, Some, None, refl, sym, subst, ap, ◌∙◌, inl, inr, arith, add-one}
-use Rattle.std.specs.Prelude.{slice_get, slice_index, count_by, sum_by, nat_le, nat_lt, ◌&&◌}
+use Rattle.std.proofs.Common.{◌≡◌, ◌<◌, ◌≤◌, ◌+◌, ◌/◌, ◌-◌, ◌^◌, ℕ, zero, suc, List, [], ◌∷◌, length, take, get_or, Bool, true, cond, Option, Some, None, refl, sym, subst, ap, ◌∙◌, inl, inr, arith, add-one}
+use Rattle.std.specs.Prelude.{slice_get, slice_index, count_by, nat_le, nat_lt, ◌&&◌}
 use Rattle.std.proofs.Math.Logic.{∥∥₁_elim}
 use Rattle.std.proofs.Props.{props}
-use Rattle.std.specs.List.Sorted.{IsPartitionedBy}
 use Rattle.std.proofs.lemmas.Bool.{cases_lt, cases_Bool, and_from, and_parts, le-leb, lt-ltb, leb-true, ltb-true, cond-true, cond-false, cond_both}
 use Rattle.dep_form.proofs.Searching.{all_at}
 use Rattle.std.proofs.lemmas.Option.{slice_get_within, slice_get-get_or, slice_get_cases, get_or_from_slice_get, same_Some, none-some}
@@ -18,7 +17,7 @@ use Rattle.dep_form.specs.declared.input.MethodInput.{MethodInput}
 use Rattle.dep_form.specs.declared.facts.Facts.{Facts}
 use Rattle.dep_form.specs.Nodes.{is_formal}
 use Rattle.dep_form.specs.Firsts.{node_count, nodes_in}
-use Rattle.dep_form.specs.Inputs.{IsInputOf, IsNodeOf, IsExitNode, formal_count}
+use Rattle.dep_form.specs.Inputs.{IsExitNode, formal_count}
 use Rattle.dep_form.specs.Summaries.{IsExitAt, IsWidthOf, Summary}
 use Rattle.dep_form.specs.LookUps.{IsMethodOfNode, HasFormals}
 use Rattle.dep_form.specs.Graphs.{HasInput}

@@ -1,5 +1,5 @@
 -- Where the words of each row lie: first all rows of mode thin, then all of mode full, each row its gate and then its data words.
-use Rattle.std.specs.Prelude.{◌≡◌, ◌+◌, ◌*◌, ◌/◌, ◌&&◌, if◌then◌else◌, ℕ, zero, suc, List, [], ◌∷◌, map, length, slice_index, Option, Some, None, nat_le, nat_lt}
+use Rattle.std.specs.Prelude.{◌+◌, ◌/◌, ◌&&◌, if◌then◌else◌, ℕ, zero, suc, List, [], ◌∷◌, map, length, slice_index, Option, Some, None, nat_le, nat_lt}
 use Rattle.slicer_ids.specs.declared.ids.NodeId.{NodeId}
 use Rattle.slicer_ids.specs.declared.ids.ExitId.{ExitId}
 use Rattle.slicer_ids.specs.declared.ids.Mode.{Mode}

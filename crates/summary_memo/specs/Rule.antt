@@ -45,6 +45,10 @@ pub record Knows (v w : View) : Type 0 where
 abbrev pub LooksOnce : View → Facts → ExitId → Mode → ℕ → View → Type 0
 LooksOnce v f e mode found w = w ≡ record v { gates = v.gates ++ (gate_of f e mode, found) ∷ [] }
 
+-- a look at the row's gate found it open, and what was known then is known still
+abbrev pub FoundOpen : View → Facts → ExitId → Mode → View → Type 0
+FoundOpen v f e mode w = (u : View) × LooksOnce v f e mode 0 u × Knows u w
+
 -- what a view knows is so
 pub record IsTold (f : Facts) (words : List ℕ) (v : View) : Type 0 where
   pub about : v.about ≢ None → v.about ≡ Some f

@@ -4,5 +4,6 @@
 
 pub mod memo;
 pub mod places;
+pub mod row;
 pub mod rows;
 pub mod view;

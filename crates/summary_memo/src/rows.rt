@@ -28,9 +28,23 @@ impl<'a> MemoRows<'a> {
         ensures sound { IfOk result IsSound }
         ensures memo { IfOk result (λ m. m.memo.now ≡ memo.now) }
         ensures seat { IfOk result (λ m. m.seat.now ≡ seat.old) }
+        ensures same { IfOk result (λ m. m.seat.ghost_name ≡ seat.entry.ghost_name) }
     {
         let buffer = Vec::from_elem(alloc, 0u64, memo.longest())?;
         Ok(MemoRows { memo, seat, buffer })
+    }
+
+    /// The seat, as these rows leave it. Who lent it learns by this what it knows.
+    pub fn into_seat(self) -> &'a mut MemoSeat
+        ensures name { result.ghost_name ≡ self.entry.seat.ghost_name }
+        ensures now { result.now ≡ self.entry.seat.now }
+    {
+        let MemoRows {
+            memo: _memo,
+            seat,
+            buffer: _buffer,
+        } = self;
+        seat
     }
 }
 

@@ -10,7 +10,7 @@ use Rattle.bit_rows.specs.Words.{ones_of}
 use Rattle.bit_rows.proofs.Bits.{in_range}
 use Rattle.dep_form.specs.declared.facts.Facts.{Facts}
 use Rattle.tabulate.specs.declared.found.Found.{Found}
-use Rattle.tabulate.specs.Frames.{node, method_of, row, width}
+use Rattle.tabulate.specs.Frames.{method_of, row, width}
 use Rattle.tabulate.specs.Found.{Got, Todo, AreFound, IsQueue, IsBlank, is_waiting, got_of, todo_of, waits_of, total}
 use Rattle.tabulate.proofs.Opening.{ones_none}
 
@@ -28,7 +28,7 @@ module _ (p : Facts) (ts : List Found) (blank : All IsBlank ts) where
   no_todo : (m : ℕ) → length (todo_of ts m) ≡ 0
   no_todo = none_at (λ t. t.todo.items) (λ t b. b.1)
 
-  no_waits : (m : ℕ) → length (waits_of ts m) ≡ 0
+  pub no_waits : (m : ℕ) → length (waits_of ts m) ≡ 0
   no_waits = none_at (λ t. t.waits.items) (λ t b. b.2)
 
   pub nothing : (q : ℕ × ℕ) → Got p ts q → ⊥

@@ -1,5 +1,5 @@
 -- How many pairs there can be.
-use Rattle.std.proofs.Common.{◌≡◌, ℕ, suc, ◌+◌, ◌*◌, ◌/◌, ◌^◌, Option, None, ltb, ◌<◌, ◌≤◌, List, [], ◌∷◌, length, get_or, sum_by, count_ones, inl, inr, sym, subst, ap, ◌∙◌, arith}
+use Rattle.std.proofs.Common.{◌≡◌, ℕ, suc, ◌+◌, ◌*◌, ◌/◌, ◌^◌, Option, ltb, ◌<◌, ◌≤◌, List, [], ◌∷◌, length, get_or, sum_by, count_ones, inl, inr, sym, subst, ap, ◌∙◌, arith}
 use Rattle.dep_form.proofs.Levels.{some_is}
 use Rattle.std.specs.Option.{option_map_or}
 use Rattle.std.proofs.lemmas.Nat.{ones-le, mul-le}
@@ -11,7 +11,7 @@ use Rattle.slicer_ids.specs.declared.ids.NodeId.{NodeId}
 use Rattle.dep_form.specs.declared.input.MethodInput.{MethodInput}
 use Rattle.dep_form.specs.Firsts.{nodes_in}
 use Rattle.tabulate.specs.declared.found.Found.{Found}
-use Rattle.tabulate.specs.Frames.{width, size, first, exit_count, exits_before}
+use Rattle.tabulate.specs.Frames.{width, size, first}
 use Rattle.tabulate.specs.Found.{AreFound, got_of, total}
 
 -- as many words as have a bit for each exit

@@ -1,6 +1,5 @@
 -- What was found stays done while the search goes on.
-use Rattle.std.proofs.Common.{◌≡◌, ◌≢◌, ℕ, ◌+◌, ◌*◌, ◌/◌, ◌%◌, ◌<◌, List, length, get_or, Contains, Option, Some, None, ◌⊎◌, inl, inr, refl, sym, subst, ap, ◌∙◌, arith}
-use Rattle.std.specs.Prelude.{slice_get}
+use Rattle.std.proofs.Common.{◌≡◌, ℕ, ◌+◌, ◌*◌, ◌/◌, ◌%◌, List, get_or, Contains, Option, Some, None, ◌⊎◌, inl, inr, refl, sym, subst, ap, ◌∙◌, arith}
 use Rattle.std.specs.Int.{bit_at}
 use Rattle.std.proofs.lemmas.Bool.{cases_eq, cases_lt}
 use Rattle.std.proofs.lemmas.Option.{same_Some}
@@ -23,10 +22,10 @@ use Rattle.tabulate.specs.Frames.{count, method_of, number_of, row, width, at}
 use Rattle.tabulate.specs.Modes.{IsFlow}
 use Rattle.tabulate.specs.Hands.{hand_of}
 use Rattle.tabulate.specs.Found.{Got, Todo, Takes, todo_of}
-use Rattle.tabulate.specs.Rules.{Rule, FromOne, Reaches, Follows, FollowsBy, hand_at}
-use Rattle.tabulate.specs.States.{IsDone, IsGood, Meets, Open, OfNode}
-use Rattle.tabulate.proofs.Placing.{one_exit, exit_place, is_exit}
-use Rattle.tabulate.proofs.Fitting.{return_exit, return_starts}
+use Rattle.tabulate.specs.Rules.{FromOne, Reaches, Follows, FollowsBy, hand_at}
+use Rattle.tabulate.specs.States.{IsDone, Meets, Open, OfNode}
+use Rattle.tabulate.proofs.Placing.{exit_place}
+use Rattle.tabulate.proofs.Fitting.{return_exit}
 
 pub same_node : (a b : NodeId) → a.0 ≡ b.0 → a ≡ b
 same_node a b e = ap (λ (n : ℕ). record { 0 = n }) e

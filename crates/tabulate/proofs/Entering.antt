@@ -1,29 +1,21 @@
 -- The rules for calls and returns, by the lists that are kept of a method.
-use Rattle.std.proofs.Common.{◌≡◌, ◌<◌, ◌≤◌, ◌+◌, ◌*◌, ◌/◌, ◌%◌, ℕ, List, length, Option, Some, None, Contains, refl, sym, subst, ap, ◌∙◌, inl, inr, arith}
-use Rattle.std.specs.Prelude.{◌↔◌}
-use Rattle.std.proofs.Props.{props}
-use Rattle.std.proofs.lemmas.Bool.{cases_lt}
+use Rattle.std.proofs.Common.{◌≡◌, ◌<◌, ◌+◌, ℕ, List, Option, Some, None, Contains, refl, sym, subst, ap, ◌∙◌, arith}
 use Rattle.bit_rows.specs.Words.{IsIn}
-use Rattle.bit_rows.specs.Adds.{Taken}
 use Rattle.slicer_ids.specs.declared.ids.NodeId.{NodeId}
 use Rattle.slicer_ids.specs.declared.ids.CallId.{CallId}
-use Rattle.slicer_ids.specs.declared.ids.ExitId.{ExitId}
 use Rattle.slicer_ids.specs.declared.ids.Mode.{Mode}
 use Rattle.dep_form.specs.declared.facts.Facts.{Facts}
 use Rattle.dep_form.specs.declared.node.Label.TheVariants.{Call, Return}
 use Rattle.dep_form.specs.Inputs.{IsEdge}
 use Rattle.dep_form.specs.Phases.{edge}
-use Rattle.dep_form.specs.Summaries.{IsExitAt, IsRow}
 use Rattle.tabulate.specs.declared.method.Method.{Method}
 use Rattle.tabulate.specs.declared.method.Argument.{Argument}
 use Rattle.tabulate.specs.declared.method.Back.{Back}
 use Rattle.tabulate.specs.declared.hands.Hands.{Hands}
-use Rattle.tabulate.specs.declared.found.Found.{Found}
 use Rattle.tabulate.specs.Frames.{count, method_of, number_of, row, first_exit, exit_count, IsOf}
-use Rattle.tabulate.specs.Methods.{IsMethodOf, IsArgument, IsBack}
-use Rattle.tabulate.specs.Hands.{hand_of}
-use Rattle.tabulate.specs.Rules.{Rule, FromOne, Reaches, Passes, PassesByHand, Comes, FollowsBy, hand_at}
-use Rattle.tabulate.proofs.Placing.{placed, exit_place, behind_first, exit_within, number_low, is_exit}
+use Rattle.tabulate.specs.Methods.{IsMethodOf, IsArgument}
+use Rattle.tabulate.specs.Rules.{FromOne, Reaches, Passes, PassesByHand, Comes, FollowsBy, hand_at}
+use Rattle.tabulate.proofs.Placing.{placed, behind_first, exit_within, number_low, is_exit}
 use Rattle.tabulate.proofs.Fitting.{one_home, call_starts, call_ends, return_starts, return_ends, return_exit}
 
 called : (p : Facts) (a g : NodeId) (k l : CallId) → k ≡ l → IsEdge p.inputs (edge a (Call k) g) → IsEdge p.inputs (edge a (Call l) g)

@@ -1,5 +1,5 @@
 -- What edges join.
-use Rattle.std.proofs.Common.{Bool, true, false, not, eqb, cond, get_or, ◌≡◌, ◌<◌, ◌≤◌, ◌+◌, ◌-◌, ◌≢◌, ◌⊎◌, ℕ, zero, suc, List, [], ◌∷◌, length, Some, Contains, refl, sym, subst, ap, ◌∙◌, inl, inr, arith}
+use Rattle.std.proofs.Common.{Bool, true, false, not, eqb, cond, get_or, ◌≡◌, ◌<◌, ◌-◌, ◌≢◌, ◌⊎◌, ℕ, zero, suc, List, [], ◌∷◌, Some, refl, sym, subst, ap, ◌∙◌, inl, inr, arith}
 use Rattle.std.specs.Prelude.{slice_get}
 use Rattle.std.proofs.Math.Logic.{∥∥₁_elim}
 use Rattle.std.proofs.Props.{props}
@@ -20,11 +20,11 @@ use Rattle.std.proofs.lemmas.List.Sums.{sum_by-cons}
 use Rattle.dep_form.specs.declared.node.Label.{Label}
 use Rattle.dep_form.specs.declared.input.MethodInput.{MethodInput}
 use Rattle.dep_form.specs.Nodes.{is_formal}
-use Rattle.dep_form.specs.Inputs.{IsEdge, IsNode, IsNodeOf, IsEdgeOf, IsInputOf, formal_count}
+use Rattle.dep_form.specs.Inputs.{IsEdge, IsNode, IsInputOf, formal_count}
 use Rattle.dep_form.proofs.Levels.{same_call}
 use Rattle.dep_form.specs.Phases.{edge}
-use Rattle.dep_form.specs.WithinFacts.{AreFacts, InOneMethod}
-use Rattle.tabulate.specs.Frames.{node, count, method_of, first, row, IsOf, IsExit}
+use Rattle.dep_form.specs.WithinFacts.{InOneMethod}
+use Rattle.tabulate.specs.Frames.{node, count, method_of, first, row, IsOf}
 use Rattle.tabulate.proofs.Placing.{of_input}
 
 -- a node of a method
@@ -91,7 +91,7 @@ not_ne false e = absurd cc
 pub one_call : (a b : CallId) → false ≡ not (eqb a.0 b.0) → a ≡ b
 one_call a b e = same_call a b (not_ne (eqb a.0 b.0) e)
 
-formals_below : (nodes : List Node) (k : ℕ) (kind : Node) → IsPartitionedBy is_formal nodes → slice_get nodes k ≡ Some kind → is_formal kind ≡ true → k < count_by is_formal nodes
+pub formals_below : (nodes : List Node) (k : ℕ) (kind : Node) → IsPartitionedBy is_formal nodes → slice_get nodes k ≡ Some kind → is_formal kind ≡ true → k < count_by is_formal nodes
 formals_below [] k kind r e f = absurd (omega (arith, slice_get_within [] k kind e))
 formals_below (x ∷ xs) zero kind r e f =
     let one : ◌≡◌ {A = ℕ} (cond (is_formal x) 1 0) 1 = ap (λ b. cond b 1 0) (ap is_formal (same_Some x kind e) ∙ f) in

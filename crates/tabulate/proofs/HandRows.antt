@@ -1,9 +1,8 @@
 -- What the bits of a row to hand say.
-use Rattle.std.proofs.Common.{◌≡◌, ◌<◌, ◌≤◌, ◌+◌, ◌*◌, ◌/◌, ◌%◌, ℕ, List, length, Some, Contains, refl, sym, subst, ap, ◌∙◌, inl, inr, arith}
+use Rattle.std.proofs.Common.{◌≡◌, ◌<◌, ◌*◌, ℕ, List, length, Some, sym, subst, ap, ◌∙◌, arith}
 use Rattle.std.proofs.Props.{props}
 use Rattle.std.specs.Prelude.{slice_get}
 use Rattle.std.proofs.lemmas.Option.{same_Some}
-use Rattle.bit_rows.specs.Words.{IsIn}
 use Rattle.slicer_ids.specs.declared.ids.NodeId.{NodeId}
 use Rattle.slicer_ids.specs.declared.ids.MethodId.{MethodId}
 use Rattle.slicer_ids.specs.declared.ids.CallId.{CallId}
@@ -12,15 +11,15 @@ use Rattle.slicer_ids.specs.declared.ids.Mode.{Mode}
 use Rattle.dep_form.specs.declared.facts.Facts.{Facts}
 use Rattle.dep_form.specs.declared.input.MethodInput.{MethodInput}
 use Rattle.dep_form.specs.declared.node.Node.{Node}
-use Rattle.dep_form.specs.declared.node.Label.TheVariants.{Call, Return}
+use Rattle.dep_form.specs.declared.node.Label.TheVariants.{Call}
 use Rattle.dep_form.specs.Inputs.{IsEdge, IsInputOf, IsNodeOf, formal_count}
 use Rattle.dep_form.specs.Phases.{edge}
-use Rattle.dep_form.specs.Summaries.{IsExitAt, IsRow, IsWidthOf}
-use Rattle.tabulate.specs.Frames.{count, method_of, row, first}
+use Rattle.dep_form.specs.Summaries.{IsExitAt, IsRow}
+use Rattle.tabulate.specs.Frames.{count, method_of, row}
 use Rattle.tabulate.proofs.Fitting.{of_node, for_formal, IsFormalOf}
 
 -- the input of a node's method is one
-one_input : (p : Facts) (n : NodeId) (a b : MethodId) (i j : MethodInput) (k : Node) → IsInputOf p.inputs a i → IsNodeOf i n k → IsInputOf p.inputs b j → method_of p n.0 ≡ b.0 → i ≡ j
+pub one_input : (p : Facts) (n : NodeId) (a b : MethodId) (i j : MethodInput) (k : Node) → IsInputOf p.inputs a i → IsNodeOf i n k → IsInputOf p.inputs b j → method_of p n.0 ≡ b.0 → i ≡ j
 one_input p n a b i j k x y z own =
     let here : method_of p n.0 ≡ a.0 = (of_node p n a k (i, x, y)).1 in
     let place : a.0 ≡ b.0 = sym here ∙ own in

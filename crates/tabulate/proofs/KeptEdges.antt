@@ -1,5 +1,5 @@
 -- What is kept of a method is that of its graph.
-use Rattle.std.proofs.Common.{◌≡◌, ◌<◌, ◌≤◌, ◌+◌, ◌-◌, ◌/◌, ◌⊎◌, ℕ, List, [], length, get_or, Contains, Some, inl, inr, refl, sym, subst, ap, ◌∙◌, arith}
+use Rattle.std.proofs.Common.{◌≡◌, ◌<◌, ◌≤◌, ◌+◌, ◌-◌, ◌/◌, ℕ, List, [], length, get_or, Contains, Some, inl, inr, sym, subst, ap, ◌∙◌, arith}
 use Rattle.std.specs.Prelude.{◌↔◌, slice_get}
 use Rattle.std.specs.List.Sorted.{IsNonDecreasingBy}
 use Rattle.std.proofs.lemmas.Option.{slice_get_within, slice_get-get_or, same_Some}
@@ -12,16 +12,16 @@ use Rattle.dep_form.specs.declared.input.MethodInput.{MethodInput}
 use Rattle.dep_form.specs.declared.node.Edge.{Edge}
 use Rattle.dep_form.specs.declared.node.Node.TheVariants.{HeapOut}
 use Rattle.dep_form.specs.declared.node.Label.TheVariants.{Call, Return}
-use Rattle.dep_form.specs.Inputs.{IsEdge, IsEdgeOf, IsInputOf}
+use Rattle.dep_form.specs.Inputs.{IsEdge, IsEdgeOf}
 use Rattle.dep_form.specs.Phases.{edge}
 use Rattle.dep_form.specs.Graphs.{IsGraphIn}
 use Rattle.dep_form.specs.Summaries.{IsExitAt}
 use Rattle.tabulate.specs.declared.method.Method.{Method}
 use Rattle.tabulate.specs.declared.method.Argument.{Argument}
 use Rattle.tabulate.specs.declared.method.Back.{Back}
-use Rattle.tabulate.specs.Frames.{first, size, exits_before, first_exit, exit_count, IsOf}
+use Rattle.tabulate.specs.Frames.{method_of, first, size, exits_before, exit_count, IsOf}
 use Rattle.tabulate.specs.Methods.{IsMethodOf, HasEdge}
-use Rattle.tabulate.proofs.Placing.{of_input, size_at}
+use Rattle.tabulate.proofs.Placing.{placed, of_input, size_at}
 
 -- an edge of an input ends in one of its nodes
 edge_end : (i : MethodInput) (e : Edge) → IsEdgeOf i e → (i.first.0 ≤ e.to.0) × (e.to.0 < i.first.0 + length i.nodes)
@@ -57,6 +57,35 @@ module _ (p : Facts) (m : MethodId) (g : Graph) (is : IsGraphIn p.inputs m g) wh
       let lt : k < length g.incoming = omega (arith, ends.0, ends.1, is.2.size) in
       let es : List Edge = get_or g.incoming k [] in
       (es, (k, lt, same_Some _ _ (sym (slice_get-get_or g.incoming k es lt) ∙ slice_get-get_or g.incoming k [] lt)), (is.2.edges k es (slice_get-get_or g.incoming k [] lt)).whole e (inner, omega (arith, ends.0)))
+
+  -- the place of a node's edges
+  pub node_within : (n : NodeId) → IsOf p n.0 m.0 → (g.first.0 ≤ n.0) × (n.0 < g.first.0 + length g.incoming)
+  node_within n o =
+      let h = placed p n.0 o.0 in
+      let start : i.first.0 ≡ first p m.0 = (p.follow_on m.0 i is.1).1 in
+      let same : g.first.0 ≡ i.first.0 = ap (λ (x : NodeId). x.0) is.2.first in
+      (omega (arith, h.above, start, same, ap (first p) o.1), omega (arith, h.below, start, same, ap (first p) o.1, ap (size p) o.1, is.2.size, size_at p m.0 (Some i) is.1))
+
+  -- .. has those that end in it
+  pub edges_at : (n : NodeId) (es : List Edge) → IsOf p n.0 m.0 → slice_get g.incoming (n.0 - g.first.0) ≡ Some es → (e : Edge) → Contains es e ↔ (IsEdge p.inputs e × (e.to ≡ n))
+  edges_at n es o at e = (to, from)
+    where
+      place : n.0 ≡ i.first.0 + (n.0 - g.first.0)
+      place = omega (arith, (node_within n o).0, ap (λ (x : NodeId). x.0) is.2.first)
+
+      to : Contains es e → IsEdge p.inputs e × (e.to ≡ n)
+      to c =
+          let h = All-contains (λ (x : Edge). IsEdgeOf i x × (x.to.0 ≡ i.first.0 + (n.0 - g.first.0))) es e (is.2.edges (n.0 - g.first.0) es at).each c in
+          ((m, i, is.1, h.0), ap (λ (j : ℕ). record { 0 = j }) (h.1 ∙ sym place))
+
+      from : IsEdge p.inputs e × (e.to ≡ n) → Contains es e
+      from ((m', i', input, h), is_to) =
+          let ends = edge_end i' e h in
+          let to_is : e.to.0 ≡ n.0 = ap (λ (x : NodeId). x.0) is_to in
+          let here : m'.0 ≡ m.0 = sym (of_input p e.to m'.0 i' input ends.0 ends.1).1 ∙ ap (method_of p) to_is ∙ o.1 in
+          let same : i' ≡ i = same_Some i' i (same_Some (Some i') (Some i) (sym (subst (λ (j : ℕ). slice_get p.inputs j ≡ Some (Some i')) here input) ∙ is.1)) in
+          let inner : IsEdgeOf i e = subst (λ (j : MethodInput). IsEdgeOf j e) same h in
+          (is.2.edges (n.0 - g.first.0) es at).whole e (inner, to_is ∙ place)
 
   module _ (x : Method) (id_is : x.id ≡ m) (first_is : x.first ≡ g.first) (size_is : x.size ≡ length g.incoming)
       (exit_is : x.first_exit ≡ exits_before p g.first.0) (count_is : x.exit_count ≡ exits_before p (g.first.0 + length g.incoming) - exits_before p g.first.0) (width_is : x.width ≡ (x.exit_count + 63) / 64)

@@ -19,3 +19,9 @@ pub mod ModeEdges
 pub mod PathLaws
 pub mod MeetLaws
 pub mod Entering
+pub mod RowLaws
+pub mod Backward
+pub mod PairCount
+pub mod TableLaws
+pub mod Starting
+pub mod OwnRowLaws

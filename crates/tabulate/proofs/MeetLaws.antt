@@ -1,13 +1,13 @@
 -- Exits that are asked for, and rows that come to hand.
-use Rattle.std.proofs.Common.{◌≡◌, ◌≢◌, ◌<◌, ◌≤◌, ◌+◌, ℕ, List, [], ◌∷◌, ◌++◌, length, get_or, reverse, Contains, Option, Some, None, ◌⊎◌, inl, inr, refl, sym, subst, ap, ◌∙◌, arith}
-use Rattle.std.specs.Prelude.{AllPairs, slice_get, MatchOption, IfOk, Result, Ok}
+use Rattle.std.proofs.Common.{◌≡◌, ◌≢◌, ◌<◌, ℕ, List, [], ◌∷◌, ◌++◌, length, reverse, Contains, Option, Some, None, ◌⊎◌, inl, inr, refl, sym, subst, ap, ◌∙◌, arith}
+use Rattle.std.specs.Prelude.{slice_get, MatchOption, IfOk, Result, Ok}
 use Rattle.std.proofs.lemmas.Bool.{cases_eq}
 use Rattle.std.proofs.lemmas.Option.{same_Some}
 use Rattle.std.proofs.lemmas.List.Elements.{Contains-append_left, Contains-push, Contains-push_cases, Contains-get_or}
 use Rattle.std.proofs.lemmas.List.{reverse-append}
 use Rattle.std.proofs.lemmas.List.Quantifiers.{all_pairs_push}
-use Rattle.std.proofs.lemmas.List.Sorted.{Contains-permutation, IsPermutation-reverse, IsPermutation-sym}
-use Rattle.bit_rows.specs.Adds.{Adds, Taken}
+use Rattle.std.proofs.lemmas.List.Sorted.{Contains-permutation, IsPermutation-reverse}
+use Rattle.bit_rows.specs.Adds.{Taken}
 use Rattle.bit_rows.proofs.Adding.{adds_none, adds_then}
 use Rattle.slicer_ids.specs.declared.ids.NodeId.{NodeId}
 use Rattle.slicer_ids.specs.declared.ids.ExitId.{ExitId}
@@ -16,16 +16,16 @@ use Rattle.slicer_ids.specs.Derivations.{IsDerivation}
 use Rattle.dep_form.specs.declared.facts.Facts.{Facts}
 use Rattle.dep_form.specs.Phases.{Level, stay}
 use Rattle.dep_form.specs.Slices.{ModeEdges}
-use Rattle.dep_form.specs.Summaries.{IsExitAt, IsDemanded, IsRow}
+use Rattle.dep_form.specs.Summaries.{IsExitAt, IsRow}
 use Rattle.tabulate.specs.declared.found.Found.{Found}
 use Rattle.tabulate.specs.declared.hands.Hands.{Hands}
 use Rattle.tabulate.specs.declared.method.Method.{Method}
-use Rattle.tabulate.specs.Frames.{count, method_of, number_of, exits_before}
+use Rattle.tabulate.specs.Frames.{method_of, number_of, exits_before}
 use Rattle.tabulate.specs.Methods.{AreMethods, IsMet, IsMetAs}
 use Rattle.tabulate.specs.Hands.{hand_of, IsPut}
-use Rattle.tabulate.specs.Found.{Got, Todo, Goes, IsSame, waits_of}
+use Rattle.tabulate.specs.Found.{Got, Todo, Goes, waits_of}
 use Rattle.tabulate.specs.Rules.{Asks}
-use Rattle.tabulate.specs.States.{IsGood, IsAskStep, AsksAny, Meets, AreAsked, AreHands, Holds, Demands, IsKnown, AreWanting, MeetStep}
+use Rattle.tabulate.specs.States.{IsGood, IsAskStep, AsksAny, Meets, Holds, Demands, IsKnown, MeetStep}
 use Rattle.tabulate.proofs.Placing.{one_exit, is_exit, exit_place}
 use Rattle.tabulate.proofs.ModeEdges.{exit_low, level_method}
 

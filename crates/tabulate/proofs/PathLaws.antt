@@ -1,8 +1,6 @@
 -- The pairs that are found are the path edges.
-use Rattle.std.proofs.Common.{◌≡◌, ◌<◌, ◌≤◌, ◌+◌, ◌-◌, ◌*◌, ◌/◌, ◌%◌, ℕ, List, length, get_or, Contains, Option, Some, None, ◌⊎◌, inl, inr, refl, sym, subst, ap, ◌∙◌, arith}
+use Rattle.std.proofs.Common.{◌≡◌, ◌<◌, ◌+◌, ◌-◌, ◌*◌, ◌/◌, ◌%◌, ℕ, List, length, get_or, Contains, Option, Some, None, ◌⊎◌, inl, inr, refl, sym, subst, ap, ◌∙◌, arith}
 use Rattle.std.proofs.Props.{props}
-use Rattle.std.specs.Prelude.{slice_get, slice_index}
-use Rattle.std.specs.Int.{bit_at}
 use Rattle.std.proofs.lemmas.Option.{same_Some, slice_get-get_or}
 use Rattle.bit_rows.specs.Words.{IsIn}
 use Rattle.bit_rows.proofs.Bits.{in_range}
@@ -22,12 +20,11 @@ use Rattle.dep_form.specs.Slices.{ModeEdges}
 use Rattle.dep_form.specs.Summaries.{IsExitAt, IsRow, Summary}
 use Rattle.tabulate.specs.declared.hands.Hands.{Hands}
 use Rattle.tabulate.specs.Frames.{count, method_of, number_of, row, first, size}
-use Rattle.tabulate.specs.Modes.{IsFlow}
 use Rattle.tabulate.specs.Hands.{hand_of}
 use Rattle.tabulate.specs.Rules.{FromOne, Reaches, Follows, FollowsBy, hand_at}
 use Rattle.tabulate.specs.States.{IsDone, IsGood}
 use Rattle.tabulate.proofs.Placing.{one_exit, exit_place, is_exit, placed, size_at}
-use Rattle.tabulate.proofs.Fitting.{return_exit, return_starts, call_ends, for_formal, IsFormalOf, of_node}
+use Rattle.tabulate.proofs.Fitting.{return_exit, call_ends, for_formal, IsFormalOf, of_node}
 use Rattle.tabulate.proofs.HandRows.{formal_within}
 use Rattle.tabulate.proofs.ModeEdges.{to_call, to_return, to_level, call_of, return_of, thin_of, base_of, level_method, path_of, level_of, exit_low}
 use Rattle.tabulate.proofs.DoneLaws.{same_node, none_or_some, not_both}
@@ -81,7 +78,7 @@ module _ (p : Facts) (mode : Mode) where
     before a n x f g = record { to = g.to; end = g.end; exit = g.exit; number = g.number; was_asked = g.was_asked; level = λ from is. subst (λ (k : NodeId). Level E k g.end) (sym (same_node from a is)) (f g.end (g.level n refl)) }
 
     -- a pair with the number of an exit of the node's method leads to that exit
-    to_exit : (g e : NodeId) (d : ExitId) → IsExitAt p d e → method_of p g.0 ≡ method_of p e.0 → IsGood p mode asked (g.0, number_of p e.0) → Level E g e
+    pub to_exit : (g e : NodeId) (d : ExitId) → IsExitAt p d e → method_of p g.0 ≡ method_of p e.0 → IsGood p mode asked (g.0, number_of p e.0) → Level E g e
     to_exit g e d at own x =
         let l = x.level g refl in
         let here = is_exit p d e at (exit_low p d e at) in

@@ -1,16 +1,15 @@
 -- Where nodes and exits stand.
-use Rattle.std.proofs.Common.{set, get_or-set_same, get_or-set_other, ◌≡◌, ◌≢◌, ◌<◌, ◌≤◌, ◌+◌, ◌-◌, ◌*◌, ◌/◌, ℕ, zero, suc, List, [], ◌∷◌, ◌⊎◌, length, take, get_or, Bool, true, false, cond, Option, Some, None, refl, sym, subst, ap, ◌∙◌, inl, inr, arith, ltb, eqb}
+use Rattle.std.proofs.Common.{set, get_or-set_same, get_or-set_other, ◌≡◌, ◌≢◌, ◌<◌, ◌≤◌, ◌+◌, ◌-◌, ◌*◌, ℕ, zero, suc, List, [], ◌∷◌, length, take, get_or, Bool, true, false, cond, Option, Some, None, refl, sym, subst, ap, ◌∙◌, inl, inr, arith, ltb, eqb}
 use Rattle.std.specs.Prelude.{slice_get, Contains}
 use Rattle.std.specs.Option.{option_map_or}
-use Rattle.std.proofs.lemmas.Bool.{cases_eq, cases_lt, false≢true, ltb-true, ltb-false, lt-ltb, le-ltb}
-use Rattle.std.proofs.lemmas.Option.{slice_get_within, slice_get-get_or, slice_get_cases, slice_get_read, slice_get_past, get_or_from_slice_get, same_Some}
+use Rattle.std.proofs.lemmas.Bool.{cases_eq, cases_lt, ltb-true, ltb-false, lt-ltb, le-ltb}
+use Rattle.std.proofs.lemmas.Option.{slice_get_within, slice_get-get_or, slice_get_read, slice_get_past, get_or_from_slice_get, same_Some}
 use Rattle.std.proofs.lemmas.List.Sums.{sum_by-cons}
 use Rattle.std.proofs.lemmas.List.{take_all, length-set}
 use Rattle.std.proofs.lemmas.Nat.{mul-le}
 use Rattle.slicer_ids.specs.declared.ids.NodeId.{NodeId}
 use Rattle.dep_form.specs.declared.input.MethodInput.{MethodInput}
 use Rattle.dep_form.specs.declared.facts.Facts.{Facts}
-use Rattle.dep_form.specs.declared.node.Node.{Node}
 use Rattle.dep_form.specs.Firsts.{node_count, nodes_in}
 use Rattle.slicer_ids.specs.declared.ids.ExitId.{ExitId}
 use Rattle.dep_form.specs.Summaries.{IsExitAt}
@@ -79,7 +78,7 @@ owner_is p n m nl ml low high =
       ]
     ]
 
-count_within : (p : Facts) (m : ℕ) → m < length p.inputs → first p m + size p m ≤ count p
+pub count_within : (p : Facts) (m : ℕ) → m < length p.inputs → first p m + size p m ≤ count p
 count_within p m lt = omega (arith, next_first p m lt, count_rises p.inputs (m + 1) (length p.inputs) (omega arith), ap node_count (take_all (length p.inputs) p.inputs (omega arith)))
 
 -- a node of an input is one of its method

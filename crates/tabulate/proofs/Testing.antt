@@ -1,16 +1,15 @@
 -- The bit of a pair, as the code reads it.
-use Rattle.std.proofs.Common.{◌≡◌, ℕ, ◌+◌, ◌-◌, ◌*◌, ◌/◌, ◌<◌, ◌≤◌, List, [], length, get_or, sym, subst, ap, ◌∙◌, arith}
+use Rattle.std.proofs.Common.{◌≡◌, ℕ, ◌+◌, ◌-◌, ◌*◌, ◌<◌, List, [], length, get_or, sym, subst, ap, ◌∙◌, arith}
 use Rattle.std.specs.Prelude.{◌↔◌, slice_get}
 use Rattle.std.specs.Option.{option_map_or}
 use Rattle.bit_rows.specs.Words.{IsIn}
-use Rattle.bit_rows.specs.Adds.{Taken}
 use Rattle.bit_rows.proofs.Bits.{in_range}
 use Rattle.dep_form.specs.declared.facts.Facts.{Facts}
 use Rattle.tabulate.specs.declared.found.Found.{Found}
 use Rattle.tabulate.specs.declared.method.Method.{Method}
 use Rattle.tabulate.specs.Frames.{method_of, width, row, at, IsOf}
 use Rattle.tabulate.specs.Methods.{IsMethodOf}
-use Rattle.tabulate.specs.Found.{Got, Todo, IsBit, AreFound, got_of, todo_of, waits_of}
+use Rattle.tabulate.specs.Found.{Got, IsBit, AreFound, got_of, waits_of}
 use Rattle.tabulate.proofs.Placing.{row_is, id_below}
 use Rattle.tabulate.proofs.Reading.{read_is}
 

@@ -1,6 +1,6 @@
 -- Where the rows of nodes stand: the nodes of a method have rows in the order of their numbers, and the exits of a method are
 -- numbered in the order of their nodes.
-use Rattle.std.specs.Prelude.{◌≡◌, ℕ, suc, ◌+◌, ◌*◌, ◌-◌, ◌/◌, ◌<◌, ◌≤◌, List, [], ◌∷◌, length, take, Contains, Option, Some, slice_get, nat_lt, if◌then◌else◌, count_by}
+use Rattle.std.specs.Prelude.{◌≡◌, ℕ, suc, ◌+◌, ◌*◌, ◌-◌, ◌/◌, ◌<◌, ◌≤◌, List, [], ◌∷◌, length, take, Contains, Option, slice_get, nat_lt, if◌then◌else◌, count_by}
 use Rattle.std.specs.Option.{option_map_or}
 use Rattle.slicer_ids.specs.declared.ids.NodeId.{NodeId}
 use Rattle.dep_form.specs.declared.input.MethodInput.{MethodInput}

@@ -6,3 +6,4 @@ pub mod Hands
 pub mod Rules
 pub mod States
 pub mod Tables
+pub mod OwnRows

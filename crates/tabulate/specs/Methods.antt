@@ -2,8 +2,6 @@
 use Rattle.std.specs.Prelude.{◌≡◌, ◌<◌, ℕ, List, length, Contains, Option, Some, slice_get}
 use Rattle.std.specs.List.Sorted.{IsNonDecreasingBy}
 use Rattle.slicer_ids.specs.declared.ids.NodeId.{NodeId}
-use Rattle.slicer_ids.specs.declared.ids.CallId.{CallId}
-use Rattle.slicer_ids.specs.declared.ids.ExitId.{ExitId}
 use Rattle.dep_form.specs.declared.facts.Facts.{Facts}
 use Rattle.dep_form.specs.declared.node.Edge.{Edge}
 use Rattle.dep_form.specs.declared.node.Label.TheVariants.{Call, Return}
@@ -13,7 +11,7 @@ use Rattle.dep_form.specs.Summaries.{IsExitAt}
 use Rattle.tabulate.specs.declared.method.Method.{Method}
 use Rattle.tabulate.specs.declared.method.Argument.{Argument}
 use Rattle.tabulate.specs.declared.method.Back.{Back}
-use Rattle.tabulate.specs.Frames.{first, size, width, first_exit, exit_count, IsOf, number_of}
+use Rattle.tabulate.specs.Frames.{first, size, width, first_exit, exit_count, IsOf}
 
 -- an edge of a call that ends in a formal of the method
 abbrev pub IsArgument : Facts → ℕ → Argument → Type 0

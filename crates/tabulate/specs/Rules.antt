@@ -1,5 +1,5 @@
 -- What follows from what.
-use Rattle.std.specs.Prelude.{◌≡◌, ◌<◌, ◌⊎◌, ℕ, ◌+◌, ◌*◌, List, Contains, Option, Some, None}
+use Rattle.std.specs.Prelude.{◌≡◌, ◌<◌, ℕ, ◌+◌, ◌*◌, List, Contains, Option, Some, None}
 use Rattle.bit_rows.specs.Words.{IsIn}
 use Rattle.slicer_ids.specs.declared.ids.NodeId.{NodeId}
 use Rattle.slicer_ids.specs.declared.ids.CallId.{CallId}

@@ -1,5 +1,6 @@
 -- What holds while a table grows.
-use Rattle.std.specs.Prelude.{◌≡◌, ◌≢◌, ◌⊎◌, ◌↔◌, ℕ, ◌+◌, ◌*◌, ◌<◌, ◌≤◌, List, ◌∷◌, length, AllPairs, Contains, Option, Some, None, reverse}
+use Rattle.std.specs.Prelude.{◌≡◌, ◌≢◌, ◌⊎◌, ◌↔◌, ℕ, ◌+◌, ◌*◌, ◌<◌, ◌≤◌, List, ◌∷◌, length, AllPairs, Contains, Option, Some, None, reverse, slice_index}
+use Rattle.std.specs.Int.{bit_at}
 use Rattle.bit_rows.specs.Words.{IsIn}
 use Rattle.slicer_ids.specs.declared.ids.NodeId.{NodeId}
 use Rattle.slicer_ids.specs.declared.ids.CallId.{CallId}
@@ -76,6 +77,10 @@ pub record Holds (p : Facts) (mode : Mode) (e : ExitId) (Has : ExitId → Type 0
   pub hands : AreHands p mode Has ms h
   pub good : (q : ℕ × ℕ) → Got p ts q → IsGood p mode asked q
 
+-- the edge is a return from the exit
+abbrev pub IsReturnFrom : Facts → ExitId → Edge → Type 0
+IsReturnFrom p d x = IsExitAt p d x.from × (k : CallId) × (x.label ≡ Return k)
+
 -- an exit was asked for, in a method that may have been opened for it
 pub record IsAskStep (p : Facts) (d : ExitId) (ts ts' : List Found) (q q' : List NodeId) (steps steps' : ℕ) : Type 0 where
   pub opened : List Found
@@ -120,11 +125,15 @@ pub record IsNext (p : Facts) (ts ts' : List Found) (q q' : List NodeId) (n : No
 abbrev pub IsTakenUp : Facts → List Found → NodeId → List ℕ → Type 0
 IsTakenUp p ts n delta = (x : ℕ) → IsIn delta x → Got p ts (n.0, x)
 
+-- a word of a row over the formals from this node on: a bit for each from which a pair with the number was found
+abbrev pub IsWordFound : Facts → List Found → ℕ → ℕ → ℕ → ℕ → ℕ → Type 0
+IsWordFound p ts first formals number k word = (b : ℕ) → b < 64 → (bit_at word b ≡ 1) ↔ ((64 * k + b < formals) × Got p ts (first + (64 * k + b), number))
+
 -- the row has a bit for each formal of the exit's method to which the exit was found to lead
 pub record IsRowFound (p : Facts) (ts : List Found) (d : ExitId) (bits : List ℕ) : Type 0 where
   pub size : IsWidthOf p d (length bits)
-  pub each : (m : MethodId) (i : MethodInput) (x : NodeId) (kind : Node) (k : ℕ) → IsExitAt p d x → IsInputOf p.inputs m i → IsNodeOf i x kind
-      → k < 64 * length bits → IsIn bits k ↔ ((k < formal_count i) × Got p ts (i.first.0 + k, number_of p x.0))
+  pub words : (m : MethodId) (i : MethodInput) (x : NodeId) (kind : Node) (k : ℕ) → IsExitAt p d x → IsInputOf p.inputs m i → IsNodeOf i x kind
+      → k < length bits → IsWordFound p ts i.first.0 (formal_count i) (number_of p x.0) k (slice_index bits k)
 
 -- exits were met: those of D
 pub record MeetStep (p : Facts) (mode : Mode) (e : ExitId) (Had Has D : ExitId → Type 0) (ms' : List (Option Method)) (h h' : Hands) (asked asked' : List ExitId)

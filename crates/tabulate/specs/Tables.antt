@@ -1,10 +1,9 @@
 -- Tables of rows.
-use Rattle.std.specs.Prelude.{◌≡◌, ◌≢◌, ◌⊎◌, ℕ, ◌+◌, List, All, AllPairs, Contains, map}
+use Rattle.std.specs.Prelude.{◌≡◌, ◌≢◌, ◌⊎◌, ℕ, ◌+◌, List, AllPairs, Contains, map}
 use Rattle.slicer_ids.specs.declared.ids.ExitId.{ExitId}
 use Rattle.slicer_ids.specs.declared.ids.Mode.{Mode}
 use Rattle.slicer_ids.specs.Derivations.{HasDerivation}
 use Rattle.dep_form.specs.declared.facts.Facts.{Facts}
-use Rattle.dep_form.specs.declared.node.Edge.{Edge}
 use Rattle.dep_form.specs.Slices.{ModeEdges}
 use Rattle.dep_form.specs.Summaries.{IsRow, IsDemanded, ModePathEdges, HasSize}
 use Rattle.tabulate.specs.declared.table.Table.{Table}

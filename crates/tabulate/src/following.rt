@@ -1,5 +1,6 @@
 // Back over the edges that end in a node, with its new bits.
 ghost use Rattle.std.specs.Prelude.{◌≡◌, ◌+◌, ◌*◌, ◌<◌, ◌≤◌, ℕ, List, OnOk, Some, None, Contains, length, IsTrue, ◌↔◌, IfSome, MatchOption};
+ghost use Rattle.std.specs.List.Sorted.{IsNonDecreasingBy};
 ghost use Rattle.bit_rows.specs.Words.{IsIn};
 ghost use Rattle.slicer_ids.specs.declared.ids.NodeId.{NodeId};
 ghost use Rattle.slicer_ids.specs.declared.ids.CallId.{CallId};
@@ -17,6 +18,7 @@ ghost use Rattle.tabulate.specs.Hands.{hand_of};
 ghost use Rattle.tabulate.specs.Found.{IsOpen, AreFound, IsQueue, Goes, total, waits_of};
 ghost use Rattle.tabulate.specs.Rules.{FromOne, Passes, PassesByHand, Comes, FollowsBy, Follows};
 
+use crate::by_call::{arguments_of_call, returns_of_call};
 use crate::found::{Found, copy, give, is_open, is_taken};
 use crate::hands::Hands;
 use crate::method::{Argument, Back, Method, find_method, owner};
@@ -67,7 +69,7 @@ fn pass_one<L: Ledger>(
 }
 
 // The same for each of some arguments.
-fn pass<L: Ledger>(
+fn pass_each<L: Ledger>(
     f: &Facts,
     exit: NodeId,
     number: usize,
@@ -98,6 +100,41 @@ fn pass<L: Ledger>(
             f, exit, number, callee, *argument, call, method, delta, found, queue, steps,
         )?;
     }
+    Ok(())
+}
+
+// The same for those arguments that are of the call.
+fn pass<L: Ledger>(
+    f: &Facts,
+    exit: NodeId,
+    number: usize,
+    callee: &Method,
+    arguments: &[Argument],
+    call: CallId,
+    method: &Method,
+    delta: &[u64],
+    found: &mut Vec<Found>,
+    queue: &mut VecDeque<NodeId>,
+    steps: &mut Steps<L>,
+) -> Result<(), NoMemory>
+    requires exit { IsExit f.now exit.0 }
+    requires number { number ≡ number_of f.now exit.0 }
+    requires callee { IsMethodOf f.now callee.now }
+    requires from { IsOf f.now exit.0 callee.now.id.0 }
+    requires order { IsNonDecreasingBy (λ (x : Argument). x.call.0) arguments.now }
+    requires arguments { (a : Argument) → Contains arguments.now a → IsArgument f.now callee.now.id.0 a × (a.call ≡ call → IsOf f.now a.from.0 method.now.id.0) }
+    requires method { IsMethodOf f.now method.now }
+    requires delta { length delta.now ≤ width f.now method.now.id.0 }
+    requires found { AreFound f.now found.old.items }
+    requires queue { IsQueue f.now found.old.items queue.old.items }
+    requires opened { IsOpen f.now found.old.items method.now.id.0 }
+    ensures goes { OnOk result (Goes f.now found.old.items found.new.items queue.old.items queue.new.items steps.old steps.new (FromOne (Passes f.now exit call delta.now) arguments.now)) }
+    ensures turns { steps.new + total found.old.items ≡ steps.old + total found.new.items }
+{
+    let arguments = arguments_of_call(arguments, call);
+    pass_each(
+        f, exit, number, callee, arguments, call, method, delta, found, queue, steps,
+    )?;
     Ok(())
 }
 
@@ -137,7 +174,7 @@ fn pass_one_by_hand<L: Ledger>(
 }
 
 // The same for each of some arguments.
-fn pass_by_hand<L: Ledger>(
+fn pass_each_by_hand<L: Ledger>(
     f: &Facts,
     bits: &[u64],
     callee: &Method,
@@ -164,6 +201,37 @@ fn pass_by_hand<L: Ledger>(
             f, bits, callee, *argument, call, method, delta, found, queue, steps,
         )?;
     }
+    Ok(())
+}
+
+// The same for those arguments that are of the call.
+fn pass_by_hand<L: Ledger>(
+    f: &Facts,
+    bits: &[u64],
+    callee: &Method,
+    arguments: &[Argument],
+    call: CallId,
+    method: &Method,
+    delta: &[u64],
+    found: &mut Vec<Found>,
+    queue: &mut VecDeque<NodeId>,
+    steps: &mut Steps<L>,
+) -> Result<(), NoMemory>
+    requires callee { IsMethodOf f.now callee.now }
+    requires order { IsNonDecreasingBy (λ (x : Argument). x.call.0) arguments.now }
+    requires arguments { (a : Argument) → Contains arguments.now a → IsArgument f.now callee.now.id.0 a × (row f.now a.formal.0 < 64 * length bits.now) × (a.call ≡ call → IsOf f.now a.from.0 method.now.id.0) }
+    requires method { IsMethodOf f.now method.now }
+    requires delta { length delta.now ≤ width f.now method.now.id.0 }
+    requires found { AreFound f.now found.old.items }
+    requires queue { IsQueue f.now found.old.items queue.old.items }
+    requires opened { IsOpen f.now found.old.items method.now.id.0 }
+    ensures goes { OnOk result (Goes f.now found.old.items found.new.items queue.old.items queue.new.items steps.old steps.new (FromOne (PassesByHand f.now bits.now call delta.now) arguments.now)) }
+    ensures turns { steps.new + total found.old.items ≡ steps.old + total found.new.items }
+{
+    let arguments = arguments_of_call(arguments, call);
+    pass_each_by_hand(
+        f, bits, callee, arguments, call, method, delta, found, queue, steps,
+    )?;
     Ok(())
 }
 
@@ -220,7 +288,7 @@ fn come_one<L: Ledger>(
 }
 
 // The same for each of some returns.
-fn come<L: Ledger>(
+fn come_each<L: Ledger>(
     f: &Facts,
     callee: &Method,
     formal: NodeId,
@@ -251,6 +319,41 @@ fn come<L: Ledger>(
             f, callee, formal, delta, call, from, *back, method, spare, found, queue, steps,
         )?;
     }
+    Ok(())
+}
+
+// The same for those returns that are of the call.
+fn come<L: Ledger>(
+    f: &Facts,
+    callee: &Method,
+    formal: NodeId,
+    delta: &[u64],
+    call: CallId,
+    from: NodeId,
+    backs: &[Back],
+    method: &Method,
+    spare: &mut Vec<u64>,
+    found: &mut Vec<Found>,
+    queue: &mut VecDeque<NodeId>,
+    steps: &mut Steps<L>,
+) -> Result<(), NoMemory>
+    requires callee { IsMethodOf f.now callee.now }
+    requires formal { IsOf f.now formal.0 callee.now.id.0 }
+    requires delta { length delta.now ≡ width f.now callee.now.id.0 }
+    requires from { IsOf f.now from.0 method.now.id.0 }
+    requires order { IsNonDecreasingBy (λ (x : Back). x.call.0) backs.now }
+    requires backs { (b : Back) → Contains backs.now b → IsBack f.now method.now.id.0 b }
+    requires method { IsMethodOf f.now method.now }
+    requires found { AreFound f.now found.old.items }
+    requires queue { IsQueue f.now found.old.items queue.old.items }
+    requires opened { IsOpen f.now found.old.items method.now.id.0 }
+    ensures goes { OnOk result (Goes f.now found.old.items found.new.items queue.old.items queue.new.items steps.old steps.new (FromOne (Comes f.now formal call delta.now from) backs.now)) }
+    ensures turns { steps.new + total found.old.items ≡ steps.old + total found.new.items }
+{
+    let backs = returns_of_call(backs, call);
+    come_each(
+        f, callee, formal, delta, call, from, backs, method, spare, found, queue, steps,
+    )?;
     Ok(())
 }
 

@@ -1,21 +1,23 @@
 // Exits that are demanded: each is asked for, or its row is to hand.
-ghost use Rattle.std.specs.Prelude.{◌≡◌, ◌↔◌, ◌+◌, ◌<◌, ◌≤◌, ◌++◌, ◌∷◌, [], ℕ, IfOk, OnOk, MatchOption, IsTrue, Contains, None, length};
+ghost use Rattle.std.specs.Prelude.{◌≡◌, ◌↔◌, ◌⊎◌, ◌+◌, ◌<◌, ◌≤◌, ◌++◌, ◌∷◌, [], ℕ, IfOk, OnOk, MatchOption, IsTrue, Contains, None, length};
 ghost use Rattle.slicer_ids.specs.declared.ids.NodeId.{NodeId};
 ghost use Rattle.slicer_ids.specs.declared.ids.ExitId.{ExitId};
+ghost use Rattle.dep_form.specs.declared.node.Edge.{Edge};
 ghost use Rattle.dep_form.specs.Graphs.{HasInput};
 ghost use Rattle.dep_form.specs.Summaries.{IsExitAt, IsRow};
 ghost use Rattle.tabulate.specs.Frames.{number_of, IsOf};
 ghost use Rattle.tabulate.specs.Hands.{hand_of};
 ghost use Rattle.tabulate.specs.Methods.{IsMethodOf, AreMethods, IsMet, IsMetAs};
 ghost use Rattle.tabulate.specs.Found.{Got, AreFound, IsQueue, total, waits_of};
-ghost use Rattle.tabulate.specs.States.{Holds, Demands, IsAskStep, MeetStep};
+ghost use Rattle.tabulate.specs.States.{Holds, Demands, IsReturnFrom, IsAskStep, Meets, MeetStep};
 
 use crate::found::{Found, ask, is_got, open};
 use crate::hands::Hands;
 use crate::keeping::keep;
-use crate::method::{Method, find_method, is_met, owner};
+use crate::method::{Method, find_method, is_met, met_method, owner};
 use dep_form::facts::Facts;
 use dep_form::graphs::Graphs;
+use dep_form::node::{Edge, Label};
 use dep_form::rows::Rows;
 use slicer_ids::ids::{ExitId, MethodId, Mode, NoMemory, NodeId};
 use slicer_ids::steps::Steps;
@@ -223,5 +225,65 @@ pub fn meet_all<G: Graphs, R: Rows, L: Ledger>(
             alloc, f, graphs, rows, e, mode, *exit, methods, hands, asked, found, queue, steps,
         )?;
     }
+    Ok(())
+}
+
+// Adds the exit of an edge, if it is a return's.
+fn add_exit(f: &Facts, edge: Edge, into: &mut Vec<ExitId>) -> Result<(), NoMemory>
+    ensures { OnOk result ((d : ExitId) → Contains into.new.items d ↔ (Contains into.old.items d ⊎ IsReturnFrom f.now d edge)) }
+{
+    match edge.label {
+        Label::Return(_) => {
+            let Some(exit) = f.exit_of(edge.from) else {
+                return Ok(());
+            };
+            into.push(exit)?;
+            Ok(())
+        }
+        Label::Thin => Ok(()),
+        Label::Base => Ok(()),
+        Label::Call(_) => Ok(()),
+    }
+}
+
+/// The exits of the returns among some edges, in a buffer that is used again.
+pub fn exits_of_returns(f: &Facts, edges: &[Edge], into: &mut Vec<ExitId>) -> Result<(), NoMemory>
+    ensures { OnOk result ((d : ExitId) → Contains into.new.items d ↔ ((x : Edge) × Contains edges.now x × IsReturnFrom f.now d x)) }
+{
+    into.clear();
+    for edge in edges {
+        add_exit(f, *edge, into)?;
+    }
+    Ok(())
+}
+
+/// Asks for the exit whose table is made.
+pub fn begin<G: Graphs, L: Ledger>(
+    alloc: Global,
+    f: &Facts,
+    graphs: &mut G,
+    e: ExitId,
+    mode: Mode,
+    methods: &mut Vec<Option<Method>>,
+    hands: &Hands,
+    asked: &mut Vec<ExitId>,
+    found: &mut Vec<Found>,
+    queue: &mut VecDeque<NodeId>,
+    steps: &mut Steps<L>,
+) -> Result<(), NoMemory>
+    requires graphs { G.sound graphs.old × (G.facts graphs.old ≡ f.now) }
+    requires exit { e.0 < length f.now.exits }
+    requires holds { Holds f.now mode e (λ _. ⊥) methods.old.items hands.now asked.old.items found.old.items queue.old.items }
+    requires none { asked.old.items ≡ [] }
+    ensures graphs { G.sound graphs.new × G.later graphs.old graphs.new }
+    ensures holds { OnOk result (Holds f.now mode e (λ _. ⊥) methods.new.items hands.now asked.new.items found.new.items queue.new.items) }
+    ensures meets { OnOk result (Meets f.now hands.now hands.now asked.old.items asked.new.items found.old.items found.new.items) }
+    ensures asked { OnOk result (asked.new.items ≡ e ∷ []) }
+    ensures turns { steps.new + total found.old.items ≡ steps.old + total found.new.items }
+{
+    let m = owner(f, f.exit_node(e));
+    meet_method(alloc, f, graphs, m, methods)?;
+    let method = met_method(f, methods, m);
+    ask_for(alloc, f, method, e, asked, found, queue, steps)?;
     Ok(())
 }

@@ -62,6 +62,20 @@ pub fn find_method<'a>(
     }
 }
 
+/// What is kept of a method that was met.
+pub fn met_method<'a>(f: &Facts, methods: &'a Vec<Option<Method>>, m: MethodId) -> &'a Method
+    requires methods { AreMethods f.now methods.now.items }
+    requires met { IsMet methods.now.items m.0 }
+    ensures there { IsMetAs methods.now.items m.0 result.now }
+    ensures method { IsMethodOf f.now result.now }
+    ensures id { result.now.id.0 ≡ m.0 }
+{
+    match find_method(f, methods, m) {
+        Some(method) => method,
+        None => unreachable!(),
+    }
+}
+
 /// Whether a method was met.
 pub fn is_met(f: &Facts, methods: &Vec<Option<Method>>, m: MethodId) -> bool
     requires method { m.0 < length f.now.inputs }

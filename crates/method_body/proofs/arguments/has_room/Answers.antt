@@ -1,7 +1,7 @@
 use Rattle.std.proofs.Common.{ℕ, subst, sym, rules}
 use Rattle.std.proofs.lemmas.Option.{same_Some}
-use Rattle.method_body.specs.Bodies.{HasType, FitsIn}
-use Rattle.method_body.proofs.Slots.{has_room, room_fits}
+use Rattle.body_form.specs.Bodies.{HasType, FitsIn}
+use Rattle.body_form.proofs.Slots.{has_room, room_fits}
 use Rattle.method_body.proofs.arguments.has_room.Goals as goal
 
 pub returns : goal.returns

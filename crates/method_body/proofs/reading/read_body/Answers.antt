@@ -6,8 +6,8 @@ use Rattle.class_form.specs.declared.class_file.CodeBody.{CodeBody}
 use Rattle.class_form.specs.declared.body.Body.{Body}
 use Rattle.class_form.specs.declared.code_error.CodeError.{CodeError}
 use Rattle.class_form.specs.declared.code_error.CodeError.TheVariants.{NoMemory}
-use Rattle.method_body.specs.Bodies.{IsBodyOf, IsFirstFault}
-use Rattle.method_body.proofs.OneBody.{one_body, one_fault, no_body}
+use Rattle.body_form.specs.Bodies.{IsBodyOf, IsFirstFault}
+use Rattle.body_form.proofs.OneBody.{one_body, one_fault, no_body}
 use Rattle.method_body.proofs.reading.read_body.Goals as goal
 
 pub returns-in-Ok-clause-only : goal.returns-in-Ok-clause-only

@@ -1,6 +1,6 @@
 use Rattle.std.proofs.Common.{subst, sym, ◌∙◌}
 use Rattle.class_form.specs.Shapes.{AreArguments}
-use Rattle.method_body.proofs.Slots.{are_arguments}
+use Rattle.body_form.proofs.Slots.{are_arguments}
 use Rattle.method_body.proofs.reading.shaped.Goals as goal
 
 pub returns-in-Ok-clause-arguments : goal.returns-in-Ok-clause-arguments

@@ -1,6 +1,5 @@
-use Rattle.std.proofs.Common.{rules, true, ◌≡◌, ◌∙◌, ap, sym, refl, ℕ, List, subst}
+use Rattle.std.proofs.Common.{rules, true, ◌≡◌, ◌∙◌, ap, sym, refl}
 use Rattle.edge_io.specs.Reads.{appended}
-use Rattle.slicer_service.specs.declared.output.Outcome.{Outcome}
 use Rattle.slicer_service.specs.declared.output.Delivered.{Delivered}
 use Rattle.slicer_service.specs.Endings.{summary_line}
 use Rattle.slicer_service.proofs.Lines.{fault_delivered}

@@ -1,4 +1,4 @@
-use Rattle.std.proofs.Common.{◌≡◌, ◌∙◌, ap, arith, codes, refl, ℕ, List, inl}
+use Rattle.std.proofs.Common.{◌∙◌, ap, arith, codes, refl, ℕ, List, inl}
 use Rattle.edge_io.specs.Reads.{appended}
 use Rattle.slicer_service.specs.Texts.{read_fault_line}
 use Rattle.slicer_service.proofs.Lines.{counted}

@@ -1,4 +1,4 @@
-use Rattle.std.proofs.Common.{◌≡◌, ◌-◌, ◌∙◌, true, length, take, codes, sym}
+use Rattle.std.proofs.Common.{◌-◌, ◌∙◌, length, take, codes, sym}
 use Rattle.std.proofs.lemmas.Slice.Eq.{ends_is}
 use Rattle.std.proofs.lemmas.Bool.Decides.{Decides-eqb}
 use Rattle.slicer_service.proofs.folder.is_class_file_name.Goals as goal

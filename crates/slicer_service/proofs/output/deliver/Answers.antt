@@ -1,4 +1,4 @@
-use Rattle.std.proofs.Common.{◌∙◌, sym}
+use Rattle.std.proofs.Common.{◌∙◌}
 use Rattle.slicer_service.specs.declared.output.Delivered.{Delivered}
 use Rattle.slicer_service.proofs.Outputs.{delivered, closes}
 use Rattle.slicer_service.proofs.output.deliver.Goals as goal

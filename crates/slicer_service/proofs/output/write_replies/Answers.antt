@@ -1,4 +1,4 @@
-use Rattle.std.proofs.Common.{rules, ◌≡◌, ◌+◌, ◌<◌, ℕ, List, Option, length, take, sym, subst}
+use Rattle.std.proofs.Common.{rules, ◌≡◌, ◌+◌, ◌<◌, ℕ, List, length, take, sym, subst}
 use Rattle.edge_io.specs.Reads.{appended}
 use Rattle.slicer_service.specs.declared.output.Outcome.{Outcome}
 use Rattle.slicer_service.specs.Outputs.{Counts, texts_of}

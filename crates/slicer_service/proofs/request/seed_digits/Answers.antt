@@ -1,6 +1,5 @@
-use Rattle.std.proofs.Common.{rules, ◌≡◌, ◌++◌, List, ℕ, codes}
-use Rattle.slicer_service.specs.Texts.{main_words}
-use Rattle.slicer_service.specs.Small.{seed_text}
+use Rattle.std.proofs.Common.{rules, ◌≡◌, ◌++◌, List, ℕ}
+use Rattle.slicer_service.specs.Scripts.{seed_text}
 use Rattle.slicer_service.proofs.Requests.{text_from_parts, after_class, after_main, slice_end, some_map, none_map}
 use Rattle.slicer_service.proofs.request.seed_digits.Goals as goal
 

@@ -1,6 +1,5 @@
-use Rattle.std.proofs.Common.{rules, ◌≡◌, ◌∙◌}
+use Rattle.std.proofs.Common.{◌∙◌}
 use Rattle.slicer_service.specs.Outputs.{texts_of}
-use Rattle.slicer_service.specs.declared.output.Delivered.{Delivered}
 use Rattle.slicer_service.proofs.Requests.{ok_map}
 use Rattle.slicer_service.proofs.RunEndings.{delivered_told, no_output_told}
 use Rattle.slicer_service.proofs.served.attended.Goals as goal

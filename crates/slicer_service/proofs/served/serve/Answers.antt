@@ -1,12 +1,15 @@
-use Rattle.std.proofs.Common.{rules, ◌≡◌, ◌∙◌, ap, sym, subst, inl, inr, refl, Option, true, ℕ, List, IfSome, Some}
+use Rattle.std.proofs.Common.{rules, ◌≡◌, ◌∙◌, ap, sym, subst, inr, Option, true, ℕ, List, IfSome, Some, Err}
 use Rattle.edge_io.specs.Files.{Files}
 use Rattle.edge_io.specs.Reads.{appended}
 use Rattle.slicer_service.specs.declared.output.Delivered.{Delivered}
-use Rattle.slicer_service.specs.Texts.{not_built_line, host_fault_line, done_line, write_fault_line, read_fault_line}
+use Rattle.slicer_service.specs.declared.stop.Stop.{Stop}
+use Rattle.slicer_service.specs.declared.stop.Stop.TheVariants.{Refused}
+use Rattle.slicer_service.specs.Folders.{IsRefusalLine}
+use Rattle.slicer_service.specs.Texts.{host_fault_line, done_line, write_fault_line}
 use Rattle.slicer_service.specs.Outputs.{IsNoFault}
 use Rattle.slicer_service.specs.Endings.{RunsAs, WriteFaultEnds, Delivers}
 use Rattle.slicer_service.specs.Runs.{output_of}
-use Rattle.slicer_service.proofs.RunEndings.{done_told, write_fault_told, made_told, unmade_told, runs_as}
+use Rattle.slicer_service.proofs.RunEndings.{stopped_told, done_told, write_fault_told, made_told, unmade_told, runs_as}
 use Rattle.slicer_service.proofs.served.serve.Goals as goal
 
 pub returns-in-Ok-clause-done : goal.returns-in-Ok-clause-done
@@ -39,17 +42,24 @@ pub returns-in-Err-clause-refused : goal.returns-in-Err-clause-refused
 returns-in-Err-clause-refused g c = λ e.
     let d = c.stopped.ensures.refused e in
     let a = c.attended.ensures in
+    let files = g.H.Host.files c.args.host.now in
     let before = g.H.Host.said c.args.host.now in
-    let same = c.stopped.ensures.files ∙ search rules in
-    runs_as (g.H.Host.files c.args.host.now) (g.H.Host.files c.stopped.new.host) before (g.H.Host.said c.stopped.new.host) c.args.folder.now c.args.script.now not_built_line 4
-    same (a.not_built (search rules)) (d.1 ∙ ap (λ (o : Option (List ℕ)). appended not_built_line o) a.said)
+    let same : g.H.Host.files c.stopped.new.host ≡ g.H.Host.files c.args.host.now = c.stopped.ensures.files ∙ search rules in
+    let ends = stopped_told files c.args.folder.now c.args.script.now d.0 c.in-Err.stop (λ is. a.not_built (c.in-Err.is ∙ ap (λ (s : Stop). Err s) is)) (λ text is. a.refused text (c.in-Err.is ∙ ap (λ (s : Stop). Err s) is)) d.1 in
+    runs_as files (g.H.Host.files c.stopped.new.host) before (g.H.Host.said c.stopped.new.host) c.args.folder.now c.args.script.now d.0 4
+    same ends (d.2 ∙ ap (λ (o : Option (List ℕ)). appended d.0 o) a.said)
+
+pub stopped-requires : goal.stopped-requires
+stopped-requires g c =
+    let line : (text : List ℕ) → c.in-Err.stop ≡ Refused text → IsRefusalLine text = λ text is. c.attended.ensures.line text (c.in-Err.is ∙ ap (λ (s : Stop). Err s) is) in
+    search rules
 
 pub returns-in-Err-clause-cause : goal.returns-in-Err-clause-cause
 returns-in-Err-clause-cause g c = λ e steady.
     let a = c.attended.ensures in
     let d = c.stopped.ensures.cause e (a.goes.same_host ∙ steady) in
     let before = g.H.Host.said c.args.host.now in
-    let same = c.stopped.ensures.files ∙ search rules in
+    let same : g.H.Host.files c.stopped.new.host ≡ g.H.Host.files c.args.host.now = c.stopped.ensures.files ∙ search rules in
     runs_as (g.H.Host.files c.args.host.now) (g.H.Host.files c.stopped.new.host) before (g.H.Host.said c.stopped.new.host) c.args.folder.now c.args.script.now host_fault_line 3
     same (a.cause (search rules) steady) (d.1 ∙ ap (λ (o : Option (List ℕ)). appended host_fault_line o) a.said)
 

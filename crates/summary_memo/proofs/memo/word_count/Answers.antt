@@ -1,4 +1,4 @@
-use Rattle.std.proofs.Common.{arith, length, ◌≡◌, ◌<◌, ◌≤◌, ◌^◌, ◌∙◌, ℕ, ap}
+use Rattle.std.proofs.Common.{arith, length, ◌≡◌, ◌∙◌, ℕ, ap}
 use Rattle.std.proofs.lemmas.Grind.{get_or_default_zero}
 use Rattle.summary_memo.specs.Places.{before, widths, mode_words}
 use Rattle.summary_memo.proofs.Widths.{words_few}

@@ -1,9 +1,8 @@
-use Rattle.std.proofs.Common.{arith, rules, ◌≡◌, ◌<◌, ◌≤◌, ◌+◌, ℕ, suc, length, List, sym, ap, ◌∙◌, subst}
+use Rattle.std.proofs.Common.{arith, rules, ◌≡◌, ◌<◌, ℕ, length, List, sym, ap, ◌∙◌, subst}
 use Rattle.std.specs.Prelude.{slice_index, ◌≢◌}
 use mathlib.Core.Logic.{dite}
 use native.Mathlib.Decide.{ℕ_discrete}
-use Rattle.slicer_ids.specs.declared.ids.ExitId.{ExitId}
-use Rattle.summary_memo.specs.Places.{before, widths, width}
+use Rattle.summary_memo.specs.Places.{before, widths}
 use Rattle.summary_memo.proofs.Starts.{index_snoc}
 use Rattle.summary_memo.proofs.Widths.{next_start, words_few}
 use Rattle.summary_memo.proofs.places.places_of.Goals as goal

@@ -1,4 +1,4 @@
-use Rattle.std.proofs.Common.{◌≡◌, ℕ, suc, ◌<◌, ◌≤◌, ◌-◌, length}
+use Rattle.std.proofs.Common.{◌≡◌, ℕ, ◌<◌, ◌≤◌, ◌-◌, length}
 use Rattle.std.specs.Prelude.{slice_index}
 use Rattle.slicer_ids.specs.declared.ids.ExitId.{ExitId}
 use Rattle.summary_memo.specs.Places.{widths, width, before}

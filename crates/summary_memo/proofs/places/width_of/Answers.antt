@@ -1,4 +1,4 @@
-use Rattle.std.proofs.Common.{Some, ◌∙◌, arith, add-one, sym, ap}
+use Rattle.std.proofs.Common.{Some, arith}
 use Rattle.summary_memo.proofs.Widths.{input_of_exit, has_input, width_from, width_few}
 use Rattle.summary_memo.proofs.places.width_of.Goals as goal
 

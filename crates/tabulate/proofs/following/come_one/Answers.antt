@@ -2,7 +2,7 @@ use Rattle.std.proofs.Common.{◌≡◌, ℕ, ◌+◌, ◌*◌, arith, ap, ◌�
 use Rattle.std.specs.Prelude.{◌↔◌}
 use Rattle.bit_rows.specs.Adds.{Taken}
 use Rattle.bit_rows.specs.Words.{IsIn}
-use Rattle.tabulate.specs.Frames.{first_exit, exit_count, method_of}
+use Rattle.tabulate.specs.Frames.{first_exit, exit_count}
 use Rattle.tabulate.specs.Found.{Got, Todo}
 use Rattle.tabulate.specs.Rules.{Whole, Comes}
 use Rattle.std.proofs.lemmas.Bool.{false≢true}

@@ -1,8 +1,7 @@
 use Rattle.dep_form.specs.declared.node.Edge.{Edge}
 use Rattle.dep_form.specs.declared.node.Label.TheVariants.{Thin}
-use Rattle.std.proofs.Common.{refl, get_or, ◌≤◌, ℕ, length, sym, ◌∙◌, subst, arith}
+use Rattle.std.proofs.Common.{refl, get_or, ◌≤◌, length, ◌∙◌, arith}
 use Rattle.std.proofs.lemmas.List.Elements.{Contains-get_or}
-use Rattle.tabulate.specs.Found.{IsOpen}
 use Rattle.tabulate.specs.Rules.{Follows}
 use Rattle.tabulate.proofs.Going.{goes_start, goes_more, goes_whole}
 use Rattle.tabulate.proofs.RulesGrow.{follows_grow}

@@ -1,4 +1,4 @@
-use Rattle.std.proofs.Common.{◌∙◌, subst, sym}
+use Rattle.std.proofs.Common.{◌∙◌}
 use Rattle.std.proofs.lemmas.Result.{on_ok_weaker}
 use Rattle.dep_form.specs.declared.node.Label.TheVariants.{Thin, Base, Call, Return}
 use Rattle.tabulate.specs.Rules.{Whole, FollowsBy}

@@ -1,4 +1,5 @@
-use Rattle.std.proofs.Common.{◌≡◌, ◌∙◌, ℕ, List, Contains, inl, inr, sym, subst, arith, length}
+use Rattle.std.specs.List.Sorted.{IsNonDecreasingBy}
+use Rattle.std.proofs.Common.{◌≡◌, ◌∙◌, List, Contains, inl, inr, sym, subst, arith, length}
 use Rattle.std.proofs.lemmas.Bool.{cases_lt}
 use Rattle.bit_rows.specs.Adds.{Taken}
 use Rattle.dep_form.specs.declared.node.Label.TheVariants.{Call}
@@ -37,6 +38,9 @@ come-requires-clause-from g c = (call_starts c.args.f.now c.args.from c.args.for
 
 pub come-requires-clause-backs : goal.come-requires-clause-backs
 come-requires-clause-backs g c = λ b h. c.in-Some.ensures.1.backs.each b (subst (λ (xs : List Back). Contains xs b) c.as_slice-backs.ensures.value h)
+
+pub come-requires-clause-order : goal.come-requires-clause-order
+come-requires-clause-order g c = subst (λ (xs : List Back). IsNonDecreasingBy (λ (x : Back). x.call.0) xs) (sym c.as_slice-backs.ensures.value) c.in-Some.ensures.1.backs.by_call
 
 pub come-requires-clause-method : goal.come-requires-clause-method
 come-requires-clause-method g c = c.in-Some.ensures.1

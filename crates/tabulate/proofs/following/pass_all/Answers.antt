@@ -1,10 +1,11 @@
-use Rattle.std.proofs.Common.{◌≡◌, ◌∙◌, ◌<◌, ◌*◌, ℕ, List, Option, length, Contains, Some, None, ap, sym, subst, arith}
+use Rattle.std.specs.List.Sorted.{IsNonDecreasingBy}
+use Rattle.std.proofs.Common.{◌≡◌, ◌∙◌, List, Contains, Some, None, ap, sym, subst, arith}
 use Rattle.std.specs.Prelude.{OnOk}
 use Rattle.std.proofs.lemmas.Result.{on_ok_weaker}
 use Rattle.bit_rows.specs.Adds.{Taken}
 use Rattle.dep_form.specs.declared.node.Label.TheVariants.{Return}
 use Rattle.tabulate.specs.declared.method.Argument.{Argument}
-use Rattle.tabulate.specs.Frames.{first_exit, row, IsOf}
+use Rattle.tabulate.specs.Frames.{first_exit}
 use Rattle.tabulate.specs.Hands.{hand_of}
 use Rattle.tabulate.specs.Found.{Got, Todo, Goes}
 use Rattle.tabulate.specs.Rules.{FromOne, Passes, PassesByHand, FollowsBy, hand_at}
@@ -22,6 +23,12 @@ pass_by_hand-requires-clause-arguments g c = λ a h.
       formal_within p c.args.mode c.args.exit c.args.from c.in-Some.bits.now (c.requires.hands c.args.exit c.in-Some.bits.now c.in-Some.ensures) c.requires.exit c.requires.from.0 a.from a.formal a.call i.0 (i.1.1 ∙ sym c.requires.from.1),
       λ same. let o = argument_home p c.args.mode c.args.hands.now c.args.callee.now c.requires.callee c.args.n c.args.from c.args.call c.args.delta.now c.requires.from a i c.requires.edge same in (o.0, o.1 ∙ c.requires.node.1),
     )
+
+pub pass_by_hand-requires-clause-order : goal.pass_by_hand-requires-clause-order
+pass_by_hand-requires-clause-order g c = subst (λ (xs : List Argument). IsNonDecreasingBy (λ (x : Argument). x.call.0) xs) (sym c.as_slice-arguments.ensures.value) c.requires.callee.arguments.by_call
+
+pub pass-requires-clause-order : goal.pass-requires-clause-order
+pass-requires-clause-order g c = subst (λ (xs : List Argument). IsNonDecreasingBy (λ (x : Argument). x.call.0) xs) (sym c.as_slice-arguments.ensures.value) c.requires.callee.arguments.by_call
 
 pub overflow_sub-exit : goal.overflow_sub-exit
 overflow_sub-exit g c = omega (arith, behind_first c.args.f.now c.args.exit c.args.from c.requires.exit c.requires.from.0, c.requires.callee.exit_is, ap (first_exit c.args.f.now) c.requires.from.1)

@@ -1,4 +1,4 @@
-use Rattle.std.proofs.Common.{◌≡◌, ℕ, arith, ap, subst}
+use Rattle.std.proofs.Common.{ℕ, arith, ap, subst}
 use Rattle.bit_rows.specs.Adds.{Taken}
 use Rattle.tabulate.specs.Frames.{exit_count, number_of}
 use Rattle.tabulate.specs.Found.{Got, Todo}

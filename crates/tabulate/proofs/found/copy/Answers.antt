@@ -1,4 +1,4 @@
-use Rattle.std.proofs.Common.{◌≡◌, ◌-◌, ◌≤◌, ℕ, ◌+◌, ◌*◌, List, length, subst, sym, ap, arith}
+use Rattle.std.proofs.Common.{◌-◌, ℕ, ◌+◌, ◌*◌, List, length, subst, sym, ap, arith}
 use Rattle.std.specs.Prelude.{◌↔◌}
 use Rattle.bit_rows.specs.Words.{IsIn}
 use Rattle.tabulate.proofs.Placing.{row_is, starts_below, fits_got, fits_todo}

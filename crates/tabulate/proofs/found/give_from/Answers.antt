@@ -1,4 +1,4 @@
-use Rattle.std.proofs.Common.{◌≡◌, ◌+◌, ◌≤◌, ℕ, length, inl, inr, refl, sym, subst, arith}
+use Rattle.std.proofs.Common.{◌+◌, ◌≤◌, ℕ, length, inl, inr, refl, sym, subst, arith}
 use Rattle.tabulate.specs.Frames.{width}
 use Rattle.tabulate.specs.Found.{IsOpen}
 use Rattle.tabulate.proofs.Placing.{row_is, starts_below, fits_waits, fits_got, fits_todo}

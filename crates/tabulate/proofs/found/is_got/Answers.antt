@@ -1,4 +1,4 @@
-use Rattle.std.proofs.Common.{ℕ, ◌/◌, ◌≤◌, arith, ap, subst, length, List, ◌+◌, ◌*◌, ◌-◌}
+use Rattle.std.proofs.Common.{ℕ, arith, ap, subst, length, List, ◌+◌, ◌*◌, ◌-◌}
 use Rattle.std.specs.Prelude.{◌↔◌, IsTrue}
 use Rattle.bit_rows.specs.Words.{IsIn}
 use Rattle.tabulate.proofs.Placing.{starts_below, fits_got}

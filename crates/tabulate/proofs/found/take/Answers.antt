@@ -1,4 +1,4 @@
-use Rattle.std.proofs.Common.{ℕ, sym, subst, arith}
+use Rattle.std.proofs.Common.{ℕ, sym, subst}
 use Rattle.tabulate.specs.Found.{IsOpen}
 use Rattle.tabulate.proofs.Placing.{row_is, starts_below, fits_waits, fits_todo}
 use Rattle.tabulate.proofs.Taking.{takes_there, are_there}

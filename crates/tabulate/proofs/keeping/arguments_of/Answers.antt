@@ -1,4 +1,4 @@
-use Rattle.std.proofs.Common.{◌∙◌, List, Contains, subst, sym}
+use Rattle.std.proofs.Common.{◌∙◌, List, Contains, subst}
 use Rattle.std.specs.Prelude.{◌↔◌}
 use Rattle.std.proofs.lemmas.List.{take_all}
 use Rattle.dep_form.specs.declared.node.Edge.{Edge}

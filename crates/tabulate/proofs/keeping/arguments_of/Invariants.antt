@@ -1,9 +1,7 @@
-use Rattle.std.proofs.Common.{◌⊎◌, take, Contains}
+use Rattle.std.proofs.Common.{take, Contains}
 use Rattle.std.specs.Prelude.{◌↔◌}
-use Rattle.slicer_ids.specs.declared.ids.NodeId.{NodeId}
-use Rattle.dep_form.specs.declared.node.Label.TheVariants.{Call, Return}
+use Rattle.dep_form.specs.declared.node.Label.TheVariants.{Call}
 use Rattle.dep_form.specs.Phases.{edge}
-use Rattle.dep_form.specs.Summaries.{IsExitAt}
 use Rattle.tabulate.specs.Methods.{HasEdge}
 use Rattle.tabulate.specs.declared.method.Argument.{Argument}
 use Rattle.tabulate.proofs.keeping.arguments_of.Given as goal

@@ -1,7 +1,7 @@
-use Rattle.std.proofs.Common.{◌⊎◌, take, Contains}
+use Rattle.std.proofs.Common.{take, Contains}
 use Rattle.std.specs.Prelude.{◌↔◌}
 use Rattle.slicer_ids.specs.declared.ids.NodeId.{NodeId}
-use Rattle.dep_form.specs.declared.node.Label.TheVariants.{Call, Return}
+use Rattle.dep_form.specs.declared.node.Label.TheVariants.{Return}
 use Rattle.dep_form.specs.Phases.{edge}
 use Rattle.dep_form.specs.Summaries.{IsExitAt}
 use Rattle.tabulate.specs.Methods.{HasEdge}

@@ -1,5 +1,5 @@
-use Rattle.std.proofs.Common.{◌≡◌, ℕ, List, length, ltb, rules, sym, subst, ◌∙◌, ap, true, false}
-use Rattle.std.specs.List.Sorted.{IsNonDecreasingBy, IsPartitionPoint}
+use Rattle.std.proofs.Common.{List, ltb, rules, sym, subst, ◌∙◌, ap}
+use Rattle.std.specs.List.Sorted.{IsNonDecreasingBy}
 use Rattle.std.proofs.lemmas.List.Sorted.{IsPartitionPoint-from_clause, IsPartitionedBy-ltb}
 use Rattle.slicer_ids.specs.declared.ids.NodeId.{NodeId}
 use Rattle.dep_form.proofs.Firsts.{counted}

@@ -1,12 +1,10 @@
-use Rattle.std.proofs.Common.{◌≡◌, ◌+◌, ◌-◌, ◌/◌, ℕ, List, length, Contains, refl, sym, subst, ap, ◌∙◌, arith}
+use Rattle.std.proofs.Common.{◌≡◌, ◌+◌, List, length, Contains, refl, subst, ap, ◌∙◌, arith}
 use Rattle.std.specs.Prelude.{◌↔◌}
 use Rattle.slicer_ids.specs.declared.ids.NodeId.{NodeId}
 use Rattle.dep_form.specs.declared.node.Edge.{Edge}
 use Rattle.dep_form.specs.declared.node.Label.TheVariants.{Call, Return}
 use Rattle.dep_form.specs.Phases.{edge}
 use Rattle.dep_form.specs.Summaries.{IsExitAt}
-use Rattle.tabulate.specs.declared.method.Argument.{Argument}
-use Rattle.tabulate.specs.declared.method.Back.{Back}
 use Rattle.tabulate.specs.Frames.{exits_before}
 use Rattle.tabulate.specs.Methods.{HasEdge}
 use Rattle.tabulate.proofs.Placing.{exits_rise_more}

@@ -1,4 +1,3 @@
-use Rattle.std.proofs.Common.{ℕ}
 use Rattle.bit_rows.specs.Adds.{Taken}
 use Rattle.tabulate.specs.Found.{Got, Todo}
 use Rattle.tabulate.proofs.PathLaws.{follows_good}

@@ -1,6 +1,6 @@
-use Rattle.std.proofs.Common.{◌≡◌, ◌*◌, ◌<◌, ℕ, ap, arith, sym, subst, ◌∙◌}
+use Rattle.std.proofs.Common.{◌≡◌, ℕ, ap, arith, sym, subst, ◌∙◌}
 use Rattle.std.proofs.lemmas.Option.{slice_get_within}
-use Rattle.tabulate.specs.Frames.{first_exit, exit_count, method_of, number_of, width}
+use Rattle.tabulate.specs.Frames.{first_exit, exit_count, method_of, number_of}
 use Rattle.tabulate.specs.Found.{Got}
 use Rattle.tabulate.proofs.Placing.{behind_first, is_exit, exit_place, same_exit_node, number_low}
 use Rattle.tabulate.proofs.ModeEdges.{exit_low}

@@ -2,7 +2,6 @@ use Rattle.std.proofs.Common.{◌≡◌, ◌∙◌, ℕ, List, sym, subst}
 use Rattle.std.proofs.lemmas.Option.{slice_get_within}
 use Rattle.slicer_ids.specs.declared.ids.ExitId.{ExitId}
 use Rattle.tabulate.specs.Methods.{IsMet}
-use Rattle.tabulate.specs.Frames.{method_of}
 use Rattle.tabulate.specs.States.{MeetStep}
 use Rattle.tabulate.proofs.MeetLaws.{holds_on, step_put, step_asked, match_some, match_none}
 use Rattle.tabulate.proofs.meeting.meet_new.Goals as goal

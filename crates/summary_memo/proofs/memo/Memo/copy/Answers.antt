@@ -1,6 +1,6 @@
-use Rattle.std.proofs.Common.{arith, length, length-set, ◌∙◌}
+use Rattle.std.proofs.Common.{arith, length-set, ◌∙◌}
 use Rattle.dep_form.specs.Summaries.{IsMask}
-use Rattle.summary_memo.specs.Memo.{view_of, facts_of}
+use Rattle.summary_memo.specs.Memo.{facts_of}
 use Rattle.summary_memo.proofs.Starts.{put_next}
 use Rattle.summary_memo.proofs.Knowing.{knows_all}
 use Rattle.summary_memo.proofs.memo.Memo.copy.Goals as goal

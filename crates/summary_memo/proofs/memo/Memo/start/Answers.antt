@@ -1,4 +1,4 @@
-use Rattle.std.proofs.Common.{arith, ◌∙◌, subst, sym, ◌≡◌, ◌<◌, ◌^◌, ℕ, length}
+use Rattle.std.proofs.Common.{arith, ◌∙◌, ◌≡◌, ◌<◌, length}
 use Rattle.std.proofs.lemmas.Grind.{get_or_default_zero}
 use Rattle.summary_memo.specs.Places.{before, widths}
 use Rattle.summary_memo.specs.Memo.{facts_of}

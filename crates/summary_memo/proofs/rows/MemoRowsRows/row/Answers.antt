@@ -1,5 +1,5 @@
 use Rattle.std.proofs.Common.{refl, sym, ap, ◌∙◌, ◌≡◌, arith, length-take-le, subst, ℕ}
-use Rattle.std.specs.Prelude.{slice_index, length}
+use Rattle.std.specs.Prelude.{slice_index}
 use Rattle.dep_form.specs.Summaries.{IsMask, IsWidthOf}
 use Rattle.summary_memo.specs.Places.{width}
 use Rattle.summary_memo.proofs.Widths.{has_width}

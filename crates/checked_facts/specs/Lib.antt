@@ -1,0 +1,5 @@
+pub mod Checks
+pub mod Rising
+pub mod Parts
+pub mod Whole
+pub mod InputParts

@@ -1,0 +1,6 @@
+pub mod Asked
+pub mod Variables
+pub mod Signatures
+pub mod Rules
+pub mod Touched
+pub mod ConstraintSystems

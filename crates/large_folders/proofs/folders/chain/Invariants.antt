@@ -1,0 +1,10 @@
+use Rattle.std.proofs.Common.{◌≡◌, length}
+use Rattle.std.specs.Prelude.{All}
+use Rattle.hierarchy.specs.TestClasses.{IsTestClass}
+use Rattle.large_folders.proofs.folders.chain.Given as goal
+
+abbrev pub invariant-loop-number : goal.invariant-loop-number
+invariant-loop-number l = record {
+  classes : All IsTestClass l.files.items;
+  count : length l.files.items ≡ l.number;
+}

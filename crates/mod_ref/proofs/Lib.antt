@@ -1,0 +1,15 @@
+pub mod Sorting
+pub mod Orders
+pub mod Gaining
+pub mod Members
+pub mod Within
+pub mod Touched
+pub mod Passing
+pub mod Freshly
+pub mod Collected
+pub mod Tables
+pub mod TableRows
+pub mod Backwards
+pub mod SetLists
+pub mod Tracing
+pub mod Described

@@ -1,0 +1,11 @@
+pub mod OneInstruction
+pub mod Naming
+pub mod SiteTypes
+pub mod Numbers
+pub mod Outside
+pub mod Touched
+pub mod Touching
+pub mod ModRef
+pub mod Counterparts
+pub mod TinyCode
+pub mod OneProgram

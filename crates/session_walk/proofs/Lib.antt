@@ -1,0 +1,4 @@
+mod Given
+mod Fewer
+mod Measures
+mod Going

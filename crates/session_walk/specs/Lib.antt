@@ -1,0 +1,4 @@
+pub mod Seen
+pub mod Known
+pub mod Knowledge
+pub mod Missing

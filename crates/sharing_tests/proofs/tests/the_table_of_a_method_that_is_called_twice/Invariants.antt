@@ -1,0 +1,4 @@
+use Rattle.sharing_tests.proofs.tests.the_table_of_a_method_that_is_called_twice.Given as goal
+
+abbrev pub ghosts-table_of : goal.ghosts-table_of
+ghosts-table_of g a = record { name = a.blank.name; parts = a.blank.parts }

@@ -1,6 +1,0 @@
-pub mod Loops
-pub mod Agrees
-pub mod Numbers
-pub mod ItemLaws
-pub mod RuleTests
-pub mod FileLaws
