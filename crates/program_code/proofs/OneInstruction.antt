@@ -23,13 +23,13 @@ use Rattle.program_code.specs.Codes.{IsOfMethod, MethodBefore, IsProgramOfCode}
 
 -- THE INSTRUCTIONS OF A CODE
 
-size_some : (code : List ℕ) (pc : ℕ) (form : Form) → 0 < size_of code pc form
+pub size_some : (code : List ℕ) (pc : ℕ) (form : Form) → 0 < size_of code pc form
 size_some code pc TableSwitch = omega arith
 size_some code pc LookupSwitch = omega arith
 size_some code pc form = omega arith
 
 module _ (code : List ℕ) (pool : Pool) where
-  from_here : (from : ℕ) (xs : List Instr) (to : ℕ) (i : Instr) → AreInstrs code pool from xs to → Contains xs i → from ≤ i.pc
+  pub from_here : (from : ℕ) (xs : List Instr) (to : ℕ) (i : Instr) → AreInstrs code pool from xs to → Contains xs i → from ≤ i.pc
   from_here from [] to i h c = absurd (omega (arith, c.1))
   from_here from (x ∷ xs) to i h c = elim (head_or x i xs c) [
     | inl e ↦ omega (arith, ap (λ (y : Instr). y.pc) e, h.0.place)

@@ -67,7 +67,7 @@ few_dimensions code pool pc k Dimensions h lt = (h.1, h.2, omega (arith, h.3, lt
 few_dimensions code pool pc k form h lt = absurd (omega (arith, lt))
 
 module _ (p : Program) (coded : IsProgramOfCode p) where
-  some_left : (s : Statement) (b : Body) (i : Instr) (text : List ℕ) (t : FieldType) (k : ℕ) → IsAt p s b i → NamesClass p s text → NamesType text t → k < i.dims → k < t.dims
+  pub some_left : (s : Statement) (b : Body) (i : Instr) (text : List ℕ) (t : FieldType) (k : ℕ) → IsAt p s b i → NamesClass p s text → NamesType text t → k < i.dims → k < t.dims
   some_left s b i text t k at names is lt =
       let c = coded_body p coded b at.0 in
       let st : Stands c.code.code c.class.pool i.pc i = stands c.code.code c.class.pool 0 b.instrs (length c.code.code) i c.is.instrs at.2 in

@@ -1,0 +1,9 @@
+pub mod OneNumbering
+pub mod Listing
+pub mod Earliest
+pub mod Early
+pub mod LeastKinds
+pub mod Naming
+pub mod Dynamic
+pub mod OfProgram
+pub mod Arguments

@@ -1,0 +1,4 @@
+pub mod Entries
+pub mod Looking
+pub mod Refusals
+pub mod ByNumber

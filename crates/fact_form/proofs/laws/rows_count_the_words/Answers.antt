@@ -1,0 +1,6 @@
+use Rattle.fact_form.proofs.Assembled.{words}
+use Rattle.fact_form.proofs.laws.rows_count_the_words.Goals as goal
+
+pub returns : goal.returns
+returns c = λ p s mr entries rows asked coded system effects entered are.
+    words p s mr entries rows asked coded system (c.constraints_give_the_facts.ensures p s asked system) (λ t write x among. c.static_spots_are_of_static_variables.ensures p s t write x system among) effects entered are

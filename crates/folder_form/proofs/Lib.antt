@@ -1,0 +1,2 @@
+mod OneWalk
+mod OneReading

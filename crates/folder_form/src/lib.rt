@@ -1,0 +1,4 @@
+//! What the walk of a folder finds, and what the files that it found have.
+#![tactic(auto)]
+
+pub mod laws;

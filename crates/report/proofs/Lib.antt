@@ -1,0 +1,3 @@
+mod Sequence
+mod Lines
+mod Plain
