@@ -1,7 +1,7 @@
 // The classes of a folder.
 ghost use Rattle.std.specs.Prelude.{◌≡◌, ◌<◌, ◌+◌, ◌^◌, ◌⊎◌, ◌↔◌, ℕ, List, length, map, All, IfOk, IfErr, MatchOption, IsTrue, IsPermutation};
 ghost use Rattle.class_form.specs.Classes.{AreInOrder, IsNamed, IsOutside, IsAbove, IsSub};
-ghost use Rattle.class_form.specs.Numbers.{IsNamedClass, AreMethods};
+ghost use Rattle.class_form.specs.Numbers.{IsNamedClass, AreMethods, AreFields};
 ghost use Rattle.class_form.specs.Folders.{IsHierarchyOf, AreAcyclic, IsOwnAncestor, IsLeastName};
 ghost use Rattle.digraph.specs.Graphs.{HasEdge, IsGraph};
 ghost use Rattle.digraph.specs.Orders.{IsOnCycle, IsOrder};
@@ -276,6 +276,13 @@ impl Hierarchy {
         ensures { AreMethods self.now (map declared_at result.now) }
     {
         self.tree.methods.places.as_slice()
+    }
+
+    /// Where the fields stand, by number: the class, and the place in its list of fields.
+    pub fn field_places(&self) -> &[(ClassId, u16)]
+        ensures { AreFields self.now (map declared_at result.now) }
+    {
+        self.tree.fields.places.as_slice()
     }
 
     /// The field that a search from the class of this name finds (JVMS SE 7 5.4.3.2): in the class, then in its

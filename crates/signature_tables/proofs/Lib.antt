@@ -1,0 +1,10 @@
+mod SubPairs
+mod TextOrder
+mod Choosing
+mod OneMethod
+mod Typing
+mod OneInstr
+mod Filing
+mod NamedTexts
+mod NamedGrowth
+mod LeastClasses
