@@ -16,3 +16,8 @@ pub mod Counting
 pub mod Words
 pub mod CallResults
 pub mod Assembled
+pub mod LeastNodes
+pub mod LeastInputs
+pub mod LeastTables
+pub mod LeastFacts
+pub mod Listing

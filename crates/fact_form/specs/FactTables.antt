@@ -1,5 +1,5 @@
 -- The facts of a program, table by table.
-use Rattle.std.specs.Prelude.{◌≡◌, ◌⊎◌, ◌↔◌, ◌<◌, ◌≤◌, ◌+◌, ◌*◌, ◌/◌, ◌^◌, ℕ, suc, List, Option, Some, Contains, length, slice_get, count_by}
+use Rattle.std.specs.Prelude.{◌≡◌, ◌⊎◌, ◌↔◌, ◌<◌, ◌≤◌, ◌+◌, ◌*◌, ◌/◌, ◌^◌, ℕ, suc, List, Option, Some, Contains, AllPairs, length, slice_get, count_by}
 use Rattle.slicer_ids.specs.Sets.{IsOrderedListOf}
 use Rattle.slicer_ids.specs.Order.{StatementBefore, SiteBefore}
 use Rattle.slicer_ids.specs.declared.ids.MethodId.{MethodId}
@@ -30,6 +30,7 @@ use Rattle.dep_form.specs.declared.facts.Facts.{Facts}
 use Rattle.dep_form.specs.PointsTo.{Reached}
 use Rattle.dep_form.specs.Constraints.{SystemHolds, IsSite, IsRoot}
 use Rattle.dep_form.specs.Nodes.{ComesBefore, is_formal, is_exit}
+use Rattle.dep_form.specs.Graphs.{EdgeBefore}
 use Rattle.dep_form.specs.Inputs.{IsInputOf, IsNodeOf, IsNode, IsExitNode}
 use Rattle.dep_form.specs.LookUps.{IsStatementOf, HasLineIn}
 use Rattle.dep_form.specs.WithinFacts.{NodeBefore, FollowOn}
@@ -66,10 +67,19 @@ IsFlowAt p m q r =
 abbrev pub RunsIn : Program → System → Statement → (ℕ → Type 0) → Type 0
 RunsIn p s t Kind = SystemHolds s (Reached t.method) × HasOpcode p t Kind
 
--- the input of a method, or of the root: its nodes in order; the edges that end in them; the flow of control; and which nodes define
--- and use which locations at which points
+-- by where a step of control starts, then where it ends
+abbrev pub StepBefore : ℕ × ℕ → ℕ × ℕ → Type 0
+StepBefore a b = (a.0 < b.0) ⊎ ((a.0 ≡ b.0) × (a.1 < b.1))
+
+-- by point, then node, then location
+abbrev pub UseBefore : ℕ × NodeId × LocId → ℕ × NodeId × LocId → Type 0
+UseBefore a b = (a.0 < b.0) ⊎ ((a.0 ≡ b.0) × ((a.1.0 < b.1.0) ⊎ ((a.1 ≡ b.1) × (a.2.0 < b.2.0))))
+
+-- the input of a method, or of the root: its nodes; as many points as its body has, and none without a body; the edges that end in its
+-- nodes; the flow of control; and which nodes define and use which locations at which points. Each list is in order
 pub record IsInputFor (p : Program) (s : System) (mr : ModRef) (entries : List MethodId) (inputs : List (Option MethodInput)) (m : MethodId) (i : MethodInput) : Type 0 where
   pub nodes : IsOrderedListOf ComesBefore i.nodes (IsNumbered p s mr entries m)
+  pub points : (q : ℕ) → (q < i.points) ↔ ((pc : ℕ) × IsPointAt p m q pc)
   pub direct : (e : Edge) → Contains i.direct e ↔ ((a : MethodId) × (k : NodeNumber) × (j : NodeNumber) × IsNode inputs e.from a k × IsNodeOf i e.to j
       × IsDirect p s entries a k m j e.label)
   pub flow : (q r : ℕ) → Contains i.flow (q, r) ↔ IsFlowAt p m q r
@@ -77,6 +87,10 @@ pub record IsInputFor (p : Program) (s : System) (mr : ModRef) (entries : List M
       × DefinesNumber p s mr entries m pc n k)
   pub gets : (q : ℕ) (x : NodeId) (n : LocId) → Contains i.gets (q, x, n) ↔ ((pc : ℕ) × (k : NodeNumber) × IsPointAt p m q pc × IsNodeOf i x k
       × UsesNumber p s mr entries m pc n k)
+  pub direct_order : AllPairs EdgeBefore i.direct
+  pub flow_order : AllPairs StepBefore i.flow
+  pub puts_order : AllPairs UseBefore i.puts
+  pub gets_order : AllPairs UseBefore i.gets
 
 -- the inputs of the methods that may run, and of the root
 pub record AreInputs (p : Program) (s : System) (mr : ModRef) (entries : List MethodId) (inputs : List (Option MethodInput)) : Type 0 where
@@ -93,7 +107,7 @@ pub record AreAccesses (p : Program) (s : System) (inputs : List (Option MethodI
       × OperandIs p t 0 d × IsDefinitionNumber p t.method d k × IsNode inputs x t.method k)
   pub sites : (t : Statement) (a : Access) → Contains accesses (t, a) → IsOrderedListOf SiteBefore a.sites (OperandSite p s t 0)
 
--- what the value of each statement may be, where it may be something
+-- what the value of each statement may be, of each whose value may be something; of others nothing, or no site
 pub record AreValues (p : Program) (s : System) (values : List (Statement × List SiteId)) : Type 0 where
   pub order : RiseBy statement_cmp key_of_value values
   pub each : (t : Statement) (hs : List SiteId) → Contains values (t, hs) → RunsIn p s t (λ op. Unit {0}) × IsOrderedListOf SiteBefore hs (ValueSite p s t)
@@ -120,7 +134,7 @@ pub record AreMethodTexts (p : Program) (s : System) (methods : List MethodText)
 abbrev pub IsAtLine : Program → System → ClassId → ℕ → Statement → Type 0
 IsAtLine p s c line t = RunsIn p s t (λ op. Unit {0}) × IsLineOf p t (Some line) × ((k : ClassFile) × ClassOf p t.method c.0 k)
 
--- the statements of each class at each line, where there are some
+-- the statements of each class at each line, of each line that has some; of other lines nothing, or no statement
 pub record AreLines (p : Program) (s : System) (lines : List (ClassId × ℕ × List Statement)) : Type 0 where
   pub order : RiseBy line_cmp key_of_line lines
   pub classes : (c : ClassId) (line : ℕ) (ts : List Statement) → Contains lines (c, line, ts) → c.0 < length p.classes

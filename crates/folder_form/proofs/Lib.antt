@@ -1,2 +1,4 @@
 mod OneWalk
 mod OneReading
+mod Ordering
+mod SomeWalk

@@ -1,5 +1,5 @@
 -- What class files have, or the limit that is exceeded first.
-use Rattle.std.specs.Prelude.{◌≡◌, ◌+◌, ◌<◌, ◌≤◌, ℕ, List, [], ◌∷◌, length}
+use Rattle.std.specs.Prelude.{◌+◌, ◌<◌, ◌≤◌, ℕ, List, [], ◌∷◌, length}
 use Rattle.slicer_ids.specs.declared.limits.LimitKind.{LimitKind}
 use Rattle.slicer_ids.specs.declared.limits.LimitKind.TheVariants.{FileBytes, TotalBytes}
 use Rattle.edge_io.specs.Files.{Files, HasFile}

@@ -4,7 +4,7 @@ use Rattle.slicer_ids.specs.Sets.{IsOrderedListOf}
 use Rattle.slicer_ids.specs.Order.{BytesBefore}
 use Rattle.slicer_ids.specs.declared.limits.LimitKind.{LimitKind}
 use Rattle.slicer_ids.specs.declared.limits.LimitKind.TheVariants.{Depth, Files as FileCount}
-use Rattle.edge_io.specs.Files.{Files, inside, IsEntryOf}
+use Rattle.edge_io.specs.Files.{Files, inside, IsFolder, IsEntryOf}
 
 -- the name of a class file
 abbrev pub IsClassFileName : List ℕ → Type 0
@@ -47,6 +47,6 @@ mutual
     too_deep : {depth : ℕ} {folder name : List ℕ} {names before : List (List ℕ)} → HasFolder m folder name → (depth < 64 → ⊥) →
         WalksEach m depth folder (name ∷ names) before (TooMany Depth 65)
 
--- the class files of a folder that is read
+-- the class files of a folder that is read; what is no folder has no walk
 abbrev pub WalksFolder : Files → List ℕ → Walked → Type 0
-WalksFolder m folder end = Walks m 0 folder [] end
+WalksFolder m folder end = IsFolder m folder × Walks m 0 folder [] end

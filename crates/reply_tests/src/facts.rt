@@ -11,8 +11,8 @@ use slicer_ids::list::List;
 use slicer_ids::name::Name;
 use std::alloc::Global;
 
-// The statement of the method at a pc.
-fn at(pc: u16) -> Statement {
+/// The statement of the method at a pc.
+pub fn at(pc: u16) -> Statement {
     Statement {
         method: MethodId(0),
         pc,

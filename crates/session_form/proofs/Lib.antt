@@ -1,2 +1,9 @@
 mod OneAnswer
 mod OneScript
+mod OfFacts
+mod SomeLines
+mod Ordering
+mod SomePlaces
+mod Orders
+mod Candidates
+mod SomeAnswer

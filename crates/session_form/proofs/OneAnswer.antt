@@ -1,13 +1,12 @@
 -- In a state a command gets one answer.
-use Rattle.std.proofs.Common.{◌≡◌, ◌≢◌, ◌⊎◌, ◌<◌, ◌≤◌, ℕ, List, [], Contains, Option, Some, None, inl, inr, refl, sym, ap, subst, ◌∙◌, arith}
-use Rattle.std.specs.Prelude.{slice_get, get_or, length}
+use Rattle.std.proofs.Common.{◌≡◌, ◌≢◌, ◌⊎◌, ◌<◌, ℕ, List, [], Contains, Option, Some, None, inl, inr, refl, sym, ap, subst, ◌∙◌, arith}
+use Rattle.std.specs.Prelude.{slice_get, get_or}
 use Rattle.std.proofs.lemmas.Bool.{cases_lt}
 use Rattle.std.proofs.lemmas.Option.{get_or_from_slice_get, slice_get_within}
 use Rattle.std.specs.declared.cmp.Ordering.{Ordering}
 use Rattle.std.specs.declared.cmp.Ordering.TheVariants.{Less, Equal, Greater}
-use Rattle.std.specs.Ordering.{nat_cmp, ordering_reverse}
+use Rattle.std.specs.Ordering.{ordering_reverse}
 use Rattle.std.specs.Cmp.{IsTotalOrder}
-use Rattle.std.specs.Cmp.Lexicographic.{slice_cmp}
 use Rattle.std.proofs.lemmas.Cmp.{nat_list_cmp_total, tied_itself}
 use Rattle.slicer_ids.specs.Order.{StatementBefore, SiteBefore}
 use Rattle.slicer_ids.specs.Sets.{IsOrderedListOf}
@@ -19,8 +18,7 @@ use Rattle.slicer_ids.proofs.Ordered.{one_ordered}
 use Rattle.dep_form.specs.declared.access.Access.{Access}
 use Rattle.dep_form.specs.declared.access.Explanation.{Explanation}
 use Rattle.dep_form.specs.declared.facts.Facts.{Facts}
-use Rattle.dep_form.specs.declared.texts.MethodText.{MethodText}
-use Rattle.dep_form.specs.Orders.{RiseBy, statement_cmp, line_cmp, method_cmp}
+use Rattle.dep_form.specs.Orders.{RiseBy}
 use Rattle.dep_form.specs.Keys.{key_of_text, key_of_line, key_of_access}
 use Rattle.dep_form.specs.LookUps.{IsClassNamed, IsMethodNamed, IsStatement, IsAccessAt, AreAtLine}
 use Rattle.dep_form.specs.Explaining.{IsExplanation, Brings}
@@ -29,7 +27,7 @@ use Rattle.script.specs.declared.command.Command.{Command}
 use Rattle.script.specs.declared.command.Place.{Place}
 use Rattle.report.specs.declared.reply.CommandError.{CommandError}
 use Rattle.report.specs.declared.reply.LinePlace.{LinePlace}
-use Rattle.report.specs.Replies.{Answer, Done, Statements, Lines, Explained, Error}
+use Rattle.report.specs.Replies.{Answer, Statements, Lines, Explained, Error}
 use Rattle.session_form.specs.Places.{NamesMethod, NamesStatement, NamesNone, no_class, no_method, no_statement, IsAccess, NamesAccess, NamesNoAccess, no_place, no_access, NamesNoLine, no_such_class, no_such_line}
 use Rattle.session_form.specs.States.{State, Gains, IsLesserLine, LineBefore, InSlice, InFullSlice, IsLineOfSlice}
 use Rattle.session_form.specs.Answers.{Answers, seeds, seeds_line, resets, expands, expands_all, slices, slices_full, lists_lines, explains, refuses_seed, refuses_line, refuses_expansion, refuses_first, refuses_second, refuses_slice, refuses_full, refuses_lines}

@@ -1,9 +1,7 @@
 -- A script has one text.
-use Rattle.std.proofs.Common.{◌≡◌, ◌≢◌, ◌≤◌, ◌<◌, ◌+◌, ◌++◌, Bool, true, false, ℕ, zero, suc, List, [], ◌∷◌, length, Contains, Option, Some, None, Ok, Err, inl, inr, refl, sym, ap, subst, ◌∙◌, arith, take, length-append}
-use Rattle.std.specs.Prelude.{All, Result, slice_get, get_or, drop}
+use Rattle.std.proofs.Common.{◌≡◌, ◌≢◌, ◌++◌, Bool, ℕ, suc, List, [], ◌∷◌, length, Ok, Err, refl, sym, ap, subst, ◌∙◌, arith, length-append}
+use Rattle.std.specs.Prelude.{All, Result}
 use Rattle.std.specs.List.{flat_map}
-use Rattle.std.proofs.Math.Seq.{take-append_seam}
-use Rattle.std.proofs.lemmas.List.{take-append-drop}
 use Rattle.dep_form.specs.declared.facts.Facts.{Facts}
 use Rattle.script.specs.Lines.{Says}
 use Rattle.script.proofs.Deciding.{says_one}
@@ -14,7 +12,7 @@ use Rattle.report.specs.declared.reply.CommandError.{CommandError}
 use Rattle.report.specs.Replies.{Answer, Error, text}
 use Rattle.session_form.specs.States.{State, at_first}
 use Rattle.session_form.specs.Answers.{Answers}
-use Rattle.session_form.specs.Scripts.{IsOneLine, ended, HasLines, IsAllowed, IsTaken, AreLines, of_all, of_rest, of_cut, IsTrimmed, cut, kept, IsRefusal, too_long, unknown, arity, number, AreReplies, none, blank, refused, answered, closing, AreScriptReplies, IsScriptText}
+use Rattle.session_form.specs.Scripts.{IsOneLine, ended, HasLines, IsTaken, AreLines, of_all, of_rest, of_cut, IsTrimmed, cut, kept, IsRefusal, too_long, unknown, arity, number, AreReplies, none, blank, refused, answered, closing, AreScriptReplies, IsScriptText}
 use Rattle.session_form.proofs.OneAnswer.{one_answer}
 
 -- ---- lists
@@ -32,10 +30,10 @@ first_of x xs all = all 0 x (omega arith)
 rest_of : (x : ℕ) (xs : List ℕ) → IsOneLine (x ∷ xs) → IsOneLine xs
 rest_of x xs all = λ k d lt. all (suc k) d (omega (arith, lt))
 
-first_line : (l : List ℕ) (ls : List (List ℕ)) → All IsOneLine (l ∷ ls) → IsOneLine l
+pub first_line : (l : List ℕ) (ls : List (List ℕ)) → All IsOneLine (l ∷ ls) → IsOneLine l
 first_line l ls all = all 0 l (omega arith)
 
-rest_lines : (l : List ℕ) (ls : List (List ℕ)) → All IsOneLine (l ∷ ls) → All IsOneLine ls
+pub rest_lines : (l : List ℕ) (ls : List (List ℕ)) → All IsOneLine (l ∷ ls) → All IsOneLine ls
 rest_lines l ls all = λ k d lt. all (suc k) d (omega (arith, lt))
 
 -- ---- the first end of a line
@@ -75,7 +73,7 @@ lines_are (l ∷ ls) (k ∷ ks) r q e a b p o =
     let g = lines_are ls ks r q h.1 (rest_lines l ls a) (rest_lines k ks b) p o in
     (ap (λ z. z ∷ ls) h.0 ∙ ap (λ z. k ∷ z) g.0, g.1)
 
-one_splitting : (bytes : List ℕ) (ls ks : List (List ℕ)) (r q : List ℕ) → HasLines bytes ls r → HasLines bytes ks q → (ls ≡ ks) × (r ≡ q)
+pub one_splitting : (bytes : List ℕ) (ls ks : List (List ℕ)) (r q : List ℕ) → HasLines bytes ls r → HasLines bytes ks q → (ls ≡ ks) × (r ≡ q)
 one_splitting bytes ls ks r q h g = lines_are ls ks r q (sym h.spells ∙ g.spells) h.each g.each h.last g.last
 
 -- ---- what is taken of a script
@@ -197,7 +195,7 @@ module _ (f : Facts) where
   one_list_of_replies script rs bs h g =
       let lines = one_lines script h.is_cut g.is_cut h.lines g.lines h.are_lines g.are_lines in
       let replies = one_reply at_first h.lines h.replies g.replies h.last g.last h.are_replies (subst (λ ls. AreReplies f at_first ls g.replies g.last) (sym lines.1) g.are_replies) in
-      h.all ∙ ap (λ qs. qs ++ closing f h.is_cut) replies.0 ∙ ap (λ c. g.replies ++ closing f c) lines.0 ∙ sym g.all
+      h.all ∙ ap (λ qs. qs ++ closing h.is_cut) replies.0 ∙ ap (λ c. g.replies ++ closing c) lines.0 ∙ sym g.all
 
   pub one_text : (script a b : List ℕ) → IsScriptText f script a → IsScriptText f script b → a ≡ b
   one_text script a b h g = h.2 ∙ ap (flat_map (text f)) (one_list_of_replies script h.0 g.0 h.1 g.1) ∙ sym g.2

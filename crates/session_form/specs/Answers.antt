@@ -1,5 +1,5 @@
 -- The reply to each command, and what the session has been told after it.
-use Rattle.std.specs.Prelude.{◌≡◌, ◌≢◌, ◌⊎◌, ℕ, List, [], Contains}
+use Rattle.std.specs.Prelude.{◌≡◌, ◌≢◌, ℕ, List, [], Contains}
 use Rattle.slicer_ids.specs.Sets.{IsOrderedListOf}
 use Rattle.slicer_ids.specs.Order.{StatementBefore}
 use Rattle.slicer_ids.specs.declared.ids.ClassId.{ClassId}

@@ -60,6 +60,11 @@ pub data IsRefusal : LineError → CommandError → Type 0 where
   arity : IsRefusal line.Arity WrongArity
   number : IsRefusal line.BadNumber BadNumber
 
+-- what follows the replies to a script's lines
+abbrev pub closing : Bool → List Answer
+closing false = []
+closing true = Error ScriptTooLong ∷ []
+
 module _ (f : Facts) where
   -- the replies to lines, from a state on, and the state after them; a blank line has none
   pub data AreReplies : State → List (List ℕ) → List Answer → State → Type 0 where
@@ -70,11 +75,6 @@ module _ (f : Facts) where
         Says t (Err e) → IsRefusal e c → AreReplies st ls rs last → AreReplies st (l ∷ ls) (Error c ∷ rs) last
     answered : {st next last : State} {l t : List ℕ} {ls : List (List ℕ)} {a : Answer} {rs : List Answer} {c : Command} → IsTrimmed l t →
         Says t (Ok c) → Answers f st c a next → AreReplies next ls rs last → AreReplies st (l ∷ ls) (a ∷ rs) last
-
-  -- what follows the replies to a script's lines
-  abbrev pub closing : Bool → List Answer
-  closing false = []
-  closing true = Error ScriptTooLong ∷ []
 
   -- all replies to a script
   pub record AreScriptReplies (script : List ℕ) (answers : List Answer) : Type 0 where

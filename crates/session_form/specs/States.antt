@@ -4,10 +4,23 @@ use Rattle.slicer_ids.specs.Sets.{IsOrderedListOf}
 use Rattle.slicer_ids.specs.Order.{StatementBefore}
 use Rattle.slicer_ids.specs.declared.ids.NodeId.{NodeId}
 use Rattle.slicer_ids.specs.declared.ids.Statement.{Statement}
+use Rattle.dep_form.specs.declared.access.Access.{Access}
+use Rattle.dep_form.specs.declared.node.Node.TheVariants.{Own}
 use Rattle.dep_form.specs.declared.facts.Facts.{Facts}
-use Rattle.dep_form.specs.LookUps.{HasLine}
+use Rattle.dep_form.specs.Inputs.{IsNode, BelongsTo}
+use Rattle.dep_form.specs.LookUps.{HasLine, IsStatement, IsAccessAt}
 use Rattle.dep_form.specs.Slices.{Slice, FullSlice, NodesOf, StatementsOf}
 use Rattle.report.specs.declared.reply.LinePlace.{LinePlace}
+
+-- what nodes belong to is listed, with its line or that it has none
+abbrev pub AreListed : Facts → Type 0
+AreListed f = (n : NodeId) (s : Statement) → BelongsTo f.inputs n s → IsStatement f s
+
+-- each statement is listed where it has nodes, and only there; and accesses are statements. Facts of a program are such
+pub record HasEachLine (f : Facts) : Type 0 where
+  pub listed : AreListed f
+  pub has_node : (s : Statement) → IsStatement f s → (n : NodeId) × IsNode f.inputs n s.method (Own s.pc)
+  pub accesses : (s : Statement) (a : Access) → IsAccessAt f s a → IsStatement f s
 
 -- both as lists in order
 pub record State : Type 0 where

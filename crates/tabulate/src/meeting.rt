@@ -25,8 +25,8 @@ use std::alloc::Global;
 use std::collections::VecDeque;
 use std::sync::ledger::Ledger;
 
-// Keeps a method, unless it was met before.
-fn meet_method<G: Graphs>(
+/// Keeps a method, unless it was met before.
+pub fn meet_method<G: Graphs>(
     alloc: Global,
     f: &Facts,
     graphs: &mut G,
@@ -51,8 +51,8 @@ fn meet_method<G: Graphs>(
     Ok(())
 }
 
-// Asks for an exit that has no row to hand.
-fn ask_for<L: Ledger>(
+/// Asks for an exit that has no row to hand.
+pub fn ask_for<L: Ledger>(
     alloc: Global,
     f: &Facts,
     method: &Method,
@@ -78,8 +78,8 @@ fn ask_for<L: Ledger>(
     Ok(())
 }
 
-// Whether an exit was asked for.
-fn is_asked(f: &Facts, method: &Method, exit: ExitId, found: &Vec<Found>) -> bool
+/// Whether an exit was asked for.
+pub fn is_asked(f: &Facts, method: &Method, exit: ExitId, found: &Vec<Found>) -> bool
     requires method { IsMethodOf f.now method.now }
     requires exit { (x : NodeId) × IsExitAt f.now exit x × IsOf f.now x.0 method.now.id.0 }
     requires found { AreFound f.now found.now.items }

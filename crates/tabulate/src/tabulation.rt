@@ -43,8 +43,8 @@ struct Buffers {
     exits: Vec<ExitId>,
 }
 
-// No method was met.
-fn none_met(alloc: Global, methods: usize) -> Result<Vec<Option<Method>>, NoMemory>
+/// No method was met.
+pub fn none_met(alloc: Global, methods: usize) -> Result<Vec<Option<Method>>, NoMemory>
     ensures len { IfOk result (λ m. length m.items ≡ methods) }
     ensures none { IfOk result (λ m. All (λ (o : Option Method). o ≡ None) m.items) }
 {
@@ -55,8 +55,8 @@ fn none_met(alloc: Global, methods: usize) -> Result<Vec<Option<Method>>, NoMemo
     Ok(met)
 }
 
-// Copies the edges that end in a node.
-fn copy_edges<G: Graphs>(
+/// Copies the edges that end in a node.
+pub fn copy_edges<G: Graphs>(
     f: &Facts,
     graphs: &mut G,
     m: MethodId,
@@ -74,8 +74,8 @@ fn copy_edges<G: Graphs>(
     Ok(())
 }
 
-// Takes out the first node that waits, with its new bits.
-fn take_next(
+/// Takes out the first node that waits, with its new bits.
+pub fn take_next(
     f: &Facts,
     methods: &Vec<Option<Method>>,
     found: &mut Vec<Found>,
@@ -97,8 +97,8 @@ fn take_next(
     Ok(Some(n))
 }
 
-// Back over the edges that end in a node of a method that was met.
-fn follow_from<L: Ledger>(
+/// Back over the edges that end in a node of a method that was met.
+pub fn follow_from<L: Ledger>(
     f: &Facts,
     mode: Mode,
     methods: &Vec<Option<Method>>,

@@ -63,8 +63,8 @@ fn follow_one(f: &Facts, mode: Mode, phase: Phase, edge: Edge, nodes: &mut Marke
     add_if(f, holds, edge.from, nodes);
 }
 
-// Back along the edges.
-fn follow_edges(f: &Facts, mode: Mode, phase: Phase, edges: &[Edge], nodes: &mut MarkedNodes)
+/// Back along the edges.
+pub fn follow_edges(f: &Facts, mode: Mode, phase: Phase, edges: &[Edge], nodes: &mut MarkedNodes)
     requires nodes { AreNodesOf f.now nodes.old }
     requires within { All (λ (e : Edge). e.from.0 < node_count f.now.inputs) edges.now }
     ensures nodes { AreNodesOf f.now nodes.new }

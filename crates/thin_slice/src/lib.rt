@@ -5,10 +5,10 @@
 #![tactic(auto)]
 
 pub mod asked;
-mod follow;
+pub mod follow;
 pub mod laws;
-mod marked;
-mod needs;
+pub mod marked;
+pub mod needs;
 mod over;
 mod phases;
 pub mod walk;

@@ -43,8 +43,8 @@ fn nodes_in(input: &Option<MethodInput>) -> usize
     }
 }
 
-// How many nodes the facts have.
-fn count_nodes(f: &Facts) -> usize
+/// How many nodes the facts have.
+pub fn count_nodes(f: &Facts) -> usize
     ensures { result ≡ node_count f.now.inputs }
 {
     let mut count = 0;

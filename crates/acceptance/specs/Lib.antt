@@ -1,0 +1,4 @@
+pub mod Classes
+pub mod Statements
+pub mod Programs
+pub mod Refusals

@@ -1,0 +1,8 @@
+use Rattle.hierarchy.proofs.TestMembers.{test_classes, few_test_classes}
+use Rattle.call_graph_tests.proofs.test_classes.hierarchy.Goals as goal
+
+pub build-requires : goal.build-requires
+build-requires c = record {
+  few = few_test_classes c.args.files.items c.requires.classes c.requires.few;
+  named = test_classes c.args.files.items c.requires.classes;
+}

@@ -1,0 +1,7 @@
+mod Kept
+mod Errors
+mod Listed
+mod Turning
+mod Found
+mod Both
+mod Sums

@@ -1,0 +1,4 @@
+pub mod Hosts
+pub mod Below
+pub mod Folders
+pub mod Turns

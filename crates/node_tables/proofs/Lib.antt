@@ -1,0 +1,13 @@
+pub mod Joining
+pub mod PartOrder
+pub mod StatementNodes
+pub mod Calls
+pub mod InstrLoops
+pub mod MethodRows
+pub mod Numbered
+pub mod NodeCounts
+pub mod Limited
+pub mod RowTables
+pub mod ProgramScenes
+pub mod Flags
+pub mod Outcomes

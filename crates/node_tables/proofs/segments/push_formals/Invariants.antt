@@ -1,0 +1,6 @@
+use Rattle.std.proofs.Common.{◌≡◌, ◌++◌}
+use Rattle.node_tables.specs.Segments.{formals}
+use Rattle.node_tables.proofs.segments.push_formals.Given as goal
+
+abbrev pub invariant-loop-i : goal.invariant-loop-i
+invariant-loop-i l = l.nodes.items ≡ l.initial.nodes.items ++ formals l.i

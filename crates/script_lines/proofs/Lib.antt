@@ -1,0 +1,4 @@
+pub mod Splitting
+pub mod Taking
+pub mod Trimming
+pub mod Beginning

@@ -1,0 +1,9 @@
+mod Spelling
+mod Outcomes
+mod Layers
+mod MadeKinds
+mod Adding
+mod AddedSites
+mod WholeTable
+mod Numbering
+mod EmptyProgram

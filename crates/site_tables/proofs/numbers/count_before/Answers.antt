@@ -1,0 +1,8 @@
+use Rattle.std.proofs.Common.{rules}
+use Rattle.std.proofs.lemmas.List.Sorted.{IsPartitionPoint-from_clause}
+use Rattle.site_tables.specs.Tables.{is_before}
+use Rattle.site_tables.proofs.numbers.count_before.Goals as goal
+
+pub returns-clause-point : goal.returns-clause-point
+returns-clause-point c = λ parted.
+    IsPartitionPoint-from_clause (is_before c.args.place) c.args.sites.now c.partition_point.result c.partition_point.ensures.partitioned parted (λ a r f' k. search rules)
