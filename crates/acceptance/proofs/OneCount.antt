@@ -1,14 +1,14 @@
 -- A set has one size, and what is added up over it has one sum.
 use Rattle.std.proofs.Common.{◌≡◌, ◌≢◌, ◌<◌, ◌≤◌, ◌+◌, ◌-◌, ◌*◌, ℕ, suc, List, [], ◌∷◌, length, get_or, sum_by, Contains, refl, sym, ap, subst, ◌∙◌, inl, inr, arith}
-use Rattle.std.specs.Prelude.{◌/◌, AllPairs, remove, slice_get}
-use Rattle.std.proofs.lemmas.Bool.{cases_eq, cases_lt}
-use Rattle.std.proofs.lemmas.Option.{slice_get-get_or, same_Some}
+use Rattle.std.specs.Prelude.{◌/◌, AllPairs, remove}
+use Rattle.std.proofs.lemmas.Bool.{cases_lt}
+use Rattle.std.proofs.lemmas.Option.{slice_get-get_or}
 use Rattle.std.proofs.lemmas.List.Edits.{length-remove, get_or-remove_below, get_or-remove_above}
 use Rattle.std.proofs.lemmas.List.Sums.{sum_by-remove, sum_by-cons}
 use Rattle.std.proofs.lemmas.List.Elements.{All-contains}
 use Rattle.slicer_ids.specs.Sets.{IsListOf}
 use Rattle.dep_form.specs.Summaries.{HasSize}
-use Rattle.dep_form.proofs.Sizes.{one_length}
+use Rattle.dep_form.proofs.Sizes.{one_length, stays}
 use Rattle.program_form.specs.Programs.{Program}
 use Rattle.program_form.specs.Nodes.{Node}
 use Rattle.fact_form.specs.FactLimits.{IsFormalOf, IsExit, AreWidths, IsMemoSize}
@@ -17,22 +17,6 @@ pub one_size : {A : Type 0} (P : A → Type 0) (n k : ℕ) → HasSize P n → H
 one_size P n k (xs, is, e) (ys, as', f) = e ∙ one_length P xs ys is as' ∙ sym f
 
 -- NUMBERS OF THE ITEMS OF A LIST
-
--- another item stays when one is taken out
-others_stay : {A : Type 0} (ys : List A) (k : ℕ) (x z : A) → k < length ys → get_or ys k x ≡ x → Contains ys z → (x ≡ z → ⊥) → Contains (remove ys k) z
-others_stay ys k x z lt at (i, within, is) other =
-    let long = length-remove ys k lt in
-    elim (cases_lt i k) [
-      | inl below ↦ (i, omega (arith, long, below, lt), get_or-remove_below ys k z i below lt ∙ is)
-      | inr above ↦ elim (cases_eq i k) [
-        | inl same ↦
-            let z_at : get_or ys k z ≡ z = subst (λ j. get_or ys j z ≡ z) same is in
-            absurd (other (sym at ∙ same_Some (get_or ys k x) (get_or ys k z) (sym (slice_get-get_or ys k x lt) ∙ slice_get-get_or ys k z lt) ∙ z_at))
-        | inr apart ↦
-            let next : i - 1 + 1 ≡ i = omega arith in
-            (i - 1, omega (arith, long, within), get_or-remove_above ys k z (i - 1) (omega arith) lt ∙ subst (λ j. get_or ys j z ≡ z) (sym next) is)
-      ]
-    ]
 
 module _ {A : Type 0} (W : A → ℕ → Type 0) where
   -- the numbers of the items, one each
@@ -67,7 +51,7 @@ module _ {A : Type 0} (W : A → ℕ → Type 0) where
       let c = sub x (0, omega arith, refl) in
       let same : v ≡ get_or ws c.0 v = one x v (get_or ws c.0 v) (h.1 0 x v (omega arith)) (subst (λ z. W z (get_or ws c.0 v)) c.2 (g.1 c.0 x v c.1)) in
       let rest = sum_below f one xs (remove ys c.0) vs (remove ws c.0) (λ i j d lt within. once (suc i) (suc j) d (omega arith) (omega arith))
-      (λ z e. others_stay ys c.0 x z c.1 c.2 (sub z (suc e.0, omega (arith, e.1), e.2)) (λ q. once 0 (suc e.0) z (omega arith) (omega (arith, e.1)) (q ∙ sym e.2)))
+      (λ z e. stays ys c.0 x z c.1 c.2 (sub z (suc e.0, omega (arith, e.1), e.2)) (λ q. once 0 (suc e.0) z (omega arith) (omega (arith, e.1)) (q ∙ sym e.2)))
       (tails x xs v vs h) (removed ys ws c.0 c.1 g) in
       omega (arith, rest, sum_by-remove f ws c.0 v (omega (arith, g.0, c.1)), ap f same, sum_by-cons f v vs)
 

@@ -8,17 +8,14 @@ use Rattle.std.proofs.lemmas.List.Sorted.{All-permutation, IsPermutation-sym, Co
 use Rattle.slicer_ids.specs.Order.{BytesBefore}
 use Rattle.slicer_ids.specs.Sets.{IsOrderedListOf}
 use Rattle.slicer_ids.proofs.Ordered.{one_ordered}
+use Rattle.slicer_ids.proofs.Texts.{bytes_asym}
 use Rattle.class_form.specs.Classes.{class_name, AreInOrder}
 use Rattle.class_form.specs.Folders.{IsLeastName, AreDistinct, IsHierarchyOf}
 use Rattle.class_form.specs.declared.class_file.ClassFile.{ClassFile}
 use Rattle.hierarchy.specs.Causes.{IsCause}
 use Rattle.hierarchy.specs.declared.tree.TreeError.TheVariants.{Duplicate, Cycle}
-use Rattle.hierarchy.proofs.Bytes.{before_trans, not_before_itself}
 use Rattle.hierarchy.proofs.Rows.{not_twice}
 use Rattle.hierarchy.proofs.Renumbering.{distinct_of, least_own_of}
-
-bytes_asym : (a b : List ℕ) → BytesBefore a b → BytesBefore b a → ⊥
-bytes_asym a b p q = not_before_itself a (before_trans a b a p q)
 
 -- what has one list in order has one name that is the first
 pub one_least : (P : List ℕ → Type 0) (a b : List ℕ) → IsLeastName P a → IsLeastName P b → a ≡ b

@@ -1,3 +1,3 @@
-mod Ranges
-mod Inputs
-mod Whole
+pub mod Ranges
+pub mod Inputs
+pub mod Whole

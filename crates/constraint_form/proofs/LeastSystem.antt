@@ -225,6 +225,7 @@ least_variables = record {
   named = is_named;
   operands = λ t i h. absurd (nothing_read t i h);
   read = no_joined;
+  apart = λ t i d x c is only n. nothing_read t i (no_joined t i c);
 }
 
 -- the sites are those of the system that was made before

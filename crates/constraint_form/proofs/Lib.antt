@@ -1,20 +1,20 @@
 pub mod OnePlace
 pub mod Instructions
-mod Types
-mod Adding
-mod OutsideAdds
-mod ProgramAdds
-mod SystemAdds
+pub mod Types
+pub mod Adding
+pub mod OutsideAdds
+pub mod ProgramAdds
+pub mod SystemAdds
 pub mod SiteNumbers
-mod Numbers
+pub mod Numbers
 pub mod SitePassing
-mod Upwards
-mod OutsideUpwards
-mod ProgramToSystem
-mod Downwards
-mod SystemToProgram
-mod Tying
+pub mod Upwards
+pub mod OutsideUpwards
+pub mod ProgramToSystem
+pub mod Downwards
+pub mod SystemToProgram
+pub mod Tying
 pub mod LeastProgram
-mod LeastSystem
-mod StaticSpots
-mod DeclaredOnce
+pub mod LeastSystem
+pub mod StaticSpots
+pub mod DeclaredOnce

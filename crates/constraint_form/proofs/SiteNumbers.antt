@@ -1,10 +1,6 @@
 -- Sites and signatures have one number each.
 use Rattle.std.proofs.Common.{◌≡◌, ◌<◌, ℕ, List, length, Some, sym, ap, subst, ◌∙◌, inl, inr, arith}
 use Rattle.std.specs.Prelude.{slice_get}
-use Rattle.std.specs.declared.cmp.Ordering.TheVariants.{Equal}
-use Rattle.std.specs.Ordering.{nat_cmp}
-use Rattle.std.specs.Cmp.Lexicographic.{slice_cmp}
-use Rattle.std.proofs.lemmas.Cmp.{nat_list_cmp_total, tied_itself}
 use Rattle.std.proofs.lemmas.Option.{same_Some, slice_get_within}
 use Rattle.std.proofs.lemmas.List.Elements.{All-contains}
 use Rattle.slicer_ids.specs.Order.{StatementBefore, BytesBefore}
@@ -12,6 +8,7 @@ use Rattle.slicer_ids.specs.declared.ids.MethodId.{MethodId}
 use Rattle.slicer_ids.specs.declared.ids.SiteId.{SiteId}
 use Rattle.slicer_ids.specs.declared.ids.Statement.{Statement}
 use Rattle.slicer_ids.proofs.Ordered.{one_ordered}
+use Rattle.slicer_ids.proofs.Texts.{bytes_asym}
 use Rattle.class_form.specs.Pools.{MemberKey}
 use Rattle.class_form.specs.declared.types.FieldType.{FieldType}
 use Rattle.class_form.proofs.Indices.{index_in, index_at, there_at}
@@ -83,12 +80,6 @@ module _ (p : Program) where
     info_of n h x = index_at s.sites n.0 (number_below n h x)
 
 -- signatures
-bytes_asym : (a b : List ℕ) → BytesBefore a b → BytesBefore b a → ⊥
-bytes_asym a b x y =
-    let itself : BytesBefore a a = nat_list_cmp_total.trans a b a x y in
-    let e : slice_cmp nat_cmp a a ≡ Equal = tied_itself nat_list_cmp_total a in
-    absurd (cc (itself, e))
-
 pub foreign_asym : (a b : List ℕ × List ℕ) → ForeignBefore a b → ForeignBefore b a → ⊥
 foreign_asym a b (inl x) (inl y) = bytes_asym a.0 b.0 x y
 foreign_asym a b (inl x) (inr (e, y)) = let again : BytesBefore a.0 a.0 = subst (λ z. BytesBefore a.0 z) e x in bytes_asym a.0 a.0 again again

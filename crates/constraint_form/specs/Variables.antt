@@ -59,7 +59,7 @@ pub data OperandNumber (p : Program) (s : System) (names : List Meaning) (t : St
   of_operand : {x : Var} → StandsFor names x (Operand t i) → OperandNumber p s names t i x
 
 -- the list says of each variable, by number, what it stands for, and no two stand for one thing: the tables give each variable of the
--- program its number, and an operand that is read as an object has one
+-- program its number, and an operand that is read as an object has one: one of its own only where no definition gives it one
 pub record AreVariables (p : Program) (s : System) (names : List Meaning) : Type 0 where
   pub count : s.vars ≡ length names
   pub once : AllPairs (λ (a b : Meaning). a ≢ b) names
@@ -68,3 +68,5 @@ pub record AreVariables (p : Program) (s : System) (names : List Meaning) : Type
   pub named : (v : Variable) → Contains names (Named v) → IsVariable p v
   pub operands : (t : Statement) (i : ℕ) → ReadsObject p t i → (x : Var) × OperandNumber p s names t i x
   pub read : (t : Statement) (i : ℕ) → Contains names (Operand t i) → ReadsObject p t i
+  pub apart : (t : Statement) (i : ℕ) (d : Def) (x : Var) → Contains names (Operand t i) → OperandIs p t i d → ((e : Def) → OperandIs p t i e → e ≡ d) →
+      VariableNumber p s (variable_of t.method d) x → ⊥

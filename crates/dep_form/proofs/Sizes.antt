@@ -12,7 +12,7 @@ one_item : {A : Type 0} (xs : List A) (k : ℕ) (d e : A) → k < length xs → 
 one_item xs k d e lt = same_Some _ _ (sym (slice_get-get_or xs k d lt) ∙ slice_get-get_or xs k e lt)
 
 -- another item stays when one is removed
-stays : {A : Type 0} (ys : List A) (k : ℕ) (x z : A) → k < length ys → get_or ys k x ≡ x → Contains ys z → (x ≡ z → ⊥) → Contains (remove ys k) z
+pub stays : {A : Type 0} (ys : List A) (k : ℕ) (x z : A) → k < length ys → get_or ys k x ≡ x → Contains ys z → (x ≡ z → ⊥) → Contains (remove ys k) z
 stays ys k x z lt at c other = elim (cases_lt c.0 k) [
   | inl before ↦ (c.0, omega (arith, length-remove ys k lt, before, lt), get_or-remove_below ys k z c.0 before lt ∙ c.2)
   | inr past ↦ elim (cases_eq c.0 k) [

@@ -1,4 +1,3 @@
-mod OneWalk
-mod OneReading
-mod Ordering
-mod SomeWalk
+pub mod OneWalk
+pub mod OneReading
+pub mod SomeWalk

@@ -1,14 +1,11 @@
 -- The walk of a folder has one end.
 use Rattle.std.proofs.Common.{◌≡◌, ℕ, suc, List, [], ◌∷◌, ◌++◌, refl, sym, ap, subst, ◌∙◌}
 use Rattle.std.proofs.lemmas.Option.{same_Some}
-use Rattle.std.proofs.lemmas.Cmp.{nat_list_cmp_total, tied_itself}
 use Rattle.slicer_ids.specs.Order.{BytesBefore}
 use Rattle.slicer_ids.proofs.Ordered.{one_ordered}
+use Rattle.slicer_ids.proofs.Texts.{bytes_asym}
 use Rattle.edge_io.specs.Files.{Files, inside, is_folder}
 use Rattle.folder_form.specs.Walks.{HasFolder, HasFileNamed, IsNameIn, Walked, Found, TooMany, Walks, walks, WalksEach, none, class_file, too_many, other_file, folder_below, ends_below, too_deep}
-
-bytes_asym : (x y : List ℕ) → BytesBefore x y → BytesBefore y x → ⊥
-bytes_asym x y h k = absurd (cc (sym (nat_list_cmp_total.trans x y x h k) ∙ tied_itself nat_list_cmp_total x))
 
 found_are : (a b : List (List ℕ)) → Found a ≡ Found b → a ≡ b
 found_are a b e = cc e

@@ -18,7 +18,7 @@ use Rattle.edge_io.specs.Files.{Files, inside, HasNoSlash}
 use Rattle.edge_io.specs.declared.host.Entry.{Entry}
 use Rattle.edge_io.specs.declared.host.Entry.TheVariants.{Folder, File}
 use Rattle.folder_form.specs.Walks.{IsClassFileName, HasFolder, IsNameIn, Walked, Found, TooMany, Walks, walks, WalksEach, none, class_file, too_many, other_file, folder_below, ends_below, too_deep}
-use Rattle.folder_form.proofs.Ordering.{Decided, in_order}
+use Rattle.slicer_ids.proofs.Ordering.{Decided, in_order}
 
 -- ---- names by their bytes
 equal_bytes : (a b : List ℕ) → slice_cmp nat_cmp a b ≡ Equal → a ≡ b

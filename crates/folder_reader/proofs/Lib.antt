@@ -1,7 +1,7 @@
-mod Kept
-mod Errors
-mod Listed
-mod Turning
-mod Found
-mod Both
-mod Sums
+pub mod Kept
+pub mod Errors
+pub mod Listed
+pub mod Turning
+pub mod Found
+pub mod Both
+pub mod Sums

@@ -3,12 +3,12 @@ use Rattle.std.proofs.Common.{◌≡◌, ◌⊎◌, ◌↔◌, ◌<◌, ℕ, Lis
 use Rattle.std.specs.Prelude.{slice_get, unwrap_or}
 use Rattle.std.specs.Option.{option_map_or}
 use Rattle.std.proofs.lemmas.List.Elements.{All-contains}
-use Rattle.std.proofs.lemmas.Cmp.{nat_list_cmp_total, tied_itself}
 use Rattle.std.proofs.lemmas.Option.{same_Some}
 use Rattle.slicer_ids.specs.Order.{BytesBefore}
 use Rattle.slicer_ids.specs.declared.ids.ClassId.{ClassId}
 use Rattle.slicer_ids.specs.declared.ids.MethodId.{MethodId}
 use Rattle.slicer_ids.proofs.Ordered.{one_ordered}
+use Rattle.slicer_ids.proofs.Texts.{bytes_asym}
 use Rattle.class_form.specs.Classes.{Declared, IsClass, IsMethod}
 use Rattle.class_form.specs.Numbers.{MemberBefore, IsThere, AreMethods}
 use Rattle.class_form.specs.Pools.{utf_at}
@@ -20,9 +20,6 @@ use Rattle.hierarchy.specs.Places.{declared_at, name_in, text_bytes, texts_at}
 use Rattle.hierarchy.specs.declared.members.Kind.TheVariants.{Method}
 use Rattle.fact_form.proofs.ItemLists.{mapped, map_at}
 use Rattle.method_facts.specs.Entering.{IsInitializerIn, IsInitializerOf}
-
-bytes_asym : (x y : List ℕ) → BytesBefore x y → BytesBefore y x → ⊥
-bytes_asym x y h k = absurd (cc (sym (nat_list_cmp_total.trans x y x h k) ∙ tied_itself nat_list_cmp_total x))
 
 module _ (classes : List ClassFile) where
   -- a method has one name and one descriptor

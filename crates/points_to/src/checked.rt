@@ -294,6 +294,16 @@ pub fn is_whole(parts: &Parts) -> bool
 pub fn system(parts: Parts, touches: List<Touch>) -> System
     requires whole { IsWhole parts }
     requires touches { touches ≡ [] }
+    ensures constraints { result.constraints ≡ parts.constraints }
+    ensures calls { result.calls ≡ parts.calls }
+    ensures methods { result.methods ≡ parts.methods }
+    ensures sites { result.sites ≡ parts.sites }
+    ensures subclasses { result.subclasses ≡ parts.subclasses }
+    ensures selects { result.selects ≡ parts.selects }
+    ensures outside_rules { result.outside_rules ≡ parts.outside_rules }
+    ensures fields { result.fields ≡ parts.fields }
+    ensures vars { result.vars ≡ parts.vars }
+    ensures untouched { result.touches ≡ touches }
 {
     let Parts {
         constraints,

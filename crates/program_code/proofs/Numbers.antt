@@ -1,12 +1,12 @@
 -- Sites, fields and static variables have one number each.
 use Rattle.std.proofs.Common.{◌≡◌, ℕ, List, Some, inl, inr, refl, sym, ap, subst, ◌∙◌, arith}
 use Rattle.std.specs.Prelude.{slice_get}
-use Rattle.std.proofs.lemmas.Cmp.{nat_list_cmp_total, tied_itself}
 use Rattle.slicer_ids.specs.Order.{StatementBefore, BytesBefore}
 use Rattle.slicer_ids.specs.declared.ids.MethodId.{MethodId}
 use Rattle.slicer_ids.specs.declared.ids.SiteId.{SiteId}
 use Rattle.slicer_ids.specs.declared.ids.FieldId.{FieldId}
 use Rattle.slicer_ids.specs.declared.ids.Statement.{Statement}
+use Rattle.slicer_ids.proofs.Texts.{bytes_asym}
 use Rattle.class_form.specs.declared.types.FieldType.{FieldType}
 use Rattle.class_form.proofs.Indices.{one_list}
 use Rattle.dep_form.specs.declared.rules.Var.{Var}
@@ -34,9 +34,6 @@ site_asym (Made s k) (Made t j) (inr x) (inr y) = absurd (omega (arith, x.1, y.1
 site_asym (Made s k) (OfRoot j) x y = y
 site_asym (OfRoot k) (Made t j) x y = x
 site_asym (OfRoot k) (OfRoot j) x y = absurd (omega (arith, x, y))
-
-bytes_asym : (x y : List ℕ) → BytesBefore x y → BytesBefore y x → ⊥
-bytes_asym x y h k = absurd (cc (sym (nat_list_cmp_total.trans x y x h k) ∙ tied_itself nat_list_cmp_total x))
 
 foreign_asym : (a b : List ℕ × List ℕ) → ForeignBefore a b → ForeignBefore b a → ⊥
 foreign_asym a b (inl x) (inl y) = bytes_asym a.0 b.0 x y

@@ -1,11 +1,11 @@
 pub mod Forms
 pub mod Constants
 pub mod Placing
-mod Members
-mod Arrays
-mod Operands
+pub mod Members
+pub mod Arrays
+pub mod Operands
 pub mod Named
-mod Order
-mod Asking
-mod Bodies
-mod LeastFiles
+pub mod Order
+pub mod Asking
+pub mod Bodies
+pub mod LeastFiles

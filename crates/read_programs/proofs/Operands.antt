@@ -21,7 +21,7 @@ use Rattle.class_form.specs.declared.body.Body.{Body}
 use Rattle.class_form.specs.declared.body.Instr.{Instr}
 use Rattle.class_form.specs.declared.body.Def.{Def}
 use Rattle.program_form.specs.Programs.{Program, references_of}
-use Rattle.program_form.specs.Statements.{IsAt, OperandIs, CallType, IsInstance}
+use Rattle.program_form.specs.Statements.{IsAt, HasOpcode, OperandIs, CallType, IsInstance}
 use Rattle.program_code.specs.Codes.{IsOfMethod, IsProgramOfCode}
 use Rattle.program_code.proofs.OneInstruction.{one_at}
 use Rattle.program_code.proofs.Naming.{one_call_type}
@@ -81,6 +81,30 @@ other_takes : (op : ℕ) → (op ≡ 184) ⊎ (op ≡ 186) → (opcode_of op).ta
 other_takes op (inl e) = by_line op 184 Arguments e takes_184
 other_takes op (inr e) = by_line op 186 Arguments e takes_186
 
+no_receiver : (op : ℕ) → (op ≡ 184) ⊎ (op ≡ 186) → IsInstanceCall op → ⊥
+no_receiver op (inl e) (inl (inl x)) = omega (arith, e, x)
+no_receiver op (inl e) (inl (inr x)) = omega (arith, e, x)
+no_receiver op (inl e) (inr x) = omega (arith, e, x)
+no_receiver op (inr e) (inl (inl x)) = omega (arith, e, x)
+no_receiver op (inr e) (inl (inr x)) = omega (arith, e, x)
+no_receiver op (inr e) (inr x) = omega (arith, e, x)
+
+-- a call has a receiver or has none
+kind_of_call : (op : ℕ) → IsCall op → (instance : Bool) × KindIs instance op
+kind_of_call op call = elim (cases_lt op 184) [
+  | inl low ↦ elim (cases_lt op 183) [
+    | inl lower ↦ (true, inl (inl (omega (arith, call, lower))))
+    | inr is ↦ (true, inr (omega (arith, low, is)))
+  ]
+  | inr high ↦ elim (cases_lt op 185) [
+    | inl is ↦ (false, (call, no_receiver op (inl (omega (arith, high, is)))))
+    | inr higher ↦ elim (cases_lt op 186) [
+      | inl is ↦ (true, inl (inr (omega (arith, higher, is))))
+      | inr last ↦ (false, (call, no_receiver op (inr (omega (arith, call, last)))))
+    ]
+  ]
+]
+
 -- AS MANY AS THE TYPE HAS ARGUMENTS
 
 -- the call has a type, and so many operands
@@ -127,3 +151,11 @@ module _ (p : Program) (coded : IsProgramOfCode p) (sound : All IsClassFile p.cl
       let type : CallType p s k.type = (call.0, k.call.0, (b, i, c.number, c.file, at, c.of_class, k.call.1), k.call.2) in
       let same : k.type ≡ t = one_call_type p coded s k.type t type call in
       subst (λ (m : MethodType). n < length (references_of instance m)) same (subst (λ l. n < l) k.count (operand_of b i n d at holds))
+
+  -- a call has a type
+  pub call_type : HasOpcode p s IsCall → (t : MethodType) × CallType p s t
+  call_type (b, i, at, is) =
+      let c = placed p coded sound s b i at in
+      let (instance, kind) = kind_of_call i.op is in
+      let k = counted c.code.code c.file.pool s.pc i instance c.stands kind in
+      (k.type, ((b, i, at, is), k.call.0, (b, i, c.number, c.file, at, c.of_class, k.call.1), k.call.2))

@@ -1,6 +1,8 @@
 // What programs of code have, where their class files keep the rules. Nothing runs here.
 ghost use Rattle.std.specs.Prelude.{◌≡◌, ℕ, true, List, All, Contains, codes};
 ghost use Rattle.slicer_ids.specs.declared.ids.MethodId.{MethodId};
+ghost use Rattle.slicer_ids.specs.declared.ids.Statement.{Statement};
+ghost use Rattle.class_form.specs.Opcodes.{IsCall};
 ghost use Rattle.class_form.specs.Classes.{Declared, IsStatic};
 ghost use Rattle.class_form.specs.Pools.{MemberKey};
 ghost use Rattle.class_form.specs.ClassRules.{IsClassFile};
@@ -8,8 +10,10 @@ ghost use Rattle.class_form.specs.Numbers.{IsNamedClass};
 ghost use Rattle.class_form.specs.Resolution.{DeclaresField, DeclaresMethod};
 ghost use Rattle.class_form.specs.declared.class_file.ClassFile.{ClassFile};
 ghost use Rattle.class_form.specs.declared.class_file.Member.{Member};
+ghost use Rattle.class_form.specs.declared.types.MethodType.{MethodType};
 ghost use Rattle.dep_form.specs.declared.rules.Entry.{Entry};
 ghost use Rattle.program_form.specs.Programs.{Program, IsProgram, MethodOf, HasFormal, DeclaresOnce};
+ghost use Rattle.program_form.specs.Statements.{HasOpcode, CallType};
 ghost use Rattle.program_form.specs.Tiny.{tiny_program};
 ghost use Rattle.program_code.specs.Codes.{IsProgramOfCode};
 ghost use Rattle.constraint_form.specs.Asked.{IsReadProgram};
@@ -31,6 +35,11 @@ pub fn programs_of_code_are_read()
 {
     named_classes_declare_once();
 }
+
+/// Each call of such a program names a method with a type. So the constraints of a program of code never want for that of a call.
+pub fn calls_have_types()
+    ensures { (p : Program) (t : Statement) → IsProgramOfCode p → All IsClassFile p.classes → HasOpcode p t IsCall → (m : MethodType) × CallType p t m }
+{}
 
 /// A static method that takes an array of strings has an argument to be given. So the entries of a folder have what is asked of them.
 pub fn mains_have_an_argument()

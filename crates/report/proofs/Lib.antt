@@ -1,3 +1,3 @@
-mod Sequence
-mod Lines
-mod Plain
+pub mod Sequence
+pub mod Lines
+pub mod Plain

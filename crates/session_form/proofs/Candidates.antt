@@ -14,7 +14,7 @@ use Rattle.dep_form.specs.Inputs.{BelongsTo}
 use Rattle.dep_form.specs.LookUps.{HasLine}
 use Rattle.report.specs.declared.reply.LinePlace.{LinePlace}
 use Rattle.session_form.proofs.SomePlaces.{is_statement}
-use Rattle.session_form.proofs.Ordering.{Decided}
+use Rattle.slicer_ids.proofs.Ordering.{Decided}
 use Rattle.slicer_ids.proofs.Ordered.{Contains-cons_cases}
 
 there_at : {A : Type 0} (xs : List A) (k : ℕ) (x : A) → slice_get xs k ≡ Some x → Contains xs x

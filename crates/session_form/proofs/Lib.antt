@@ -1,9 +1,8 @@
-mod OneAnswer
-mod OneScript
-mod OfFacts
-mod SomeLines
-mod Ordering
-mod SomePlaces
-mod Orders
-mod Candidates
-mod SomeAnswer
+pub mod OneAnswer
+pub mod OneScript
+pub mod OfFacts
+pub mod SomeLines
+pub mod SomePlaces
+pub mod Orders
+pub mod Candidates
+pub mod SomeAnswer

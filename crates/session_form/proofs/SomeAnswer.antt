@@ -18,7 +18,7 @@ use Rattle.report.specs.Replies.{Answer}
 use Rattle.session_form.specs.Places.{IsAccess}
 use Rattle.session_form.specs.States.{State, Gains, LineBefore, InSlice, InFullSlice, IsLineOfSlice}
 use Rattle.session_form.specs.Answers.{Answers, seeds, seeds_line, resets, expands, expands_all, slices, slices_full, lists_lines, explains, refuses_seed, refuses_line, refuses_expansion, refuses_first, refuses_second, refuses_slice, refuses_full, refuses_lines}
-use Rattle.session_form.proofs.Ordering.{Decided, in_order}
+use Rattle.slicer_ids.proofs.Ordering.{Decided, in_order}
 use Rattle.session_form.proofs.Orders.{site_first, site_trans, statement_first, statement_trans, line_first, line_trans}
 use Rattle.session_form.proofs.Candidates.{statements, is_there, lines, line_there, decided}
 use Rattle.session_form.proofs.SomePlaces.{statement_told, access_told, line_told}

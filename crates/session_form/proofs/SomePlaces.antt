@@ -20,7 +20,7 @@ use Rattle.script.specs.declared.command.Place.{Place}
 use Rattle.report.specs.declared.reply.CommandError.{CommandError}
 use Rattle.report.specs.declared.reply.CommandError.TheVariants.{NoClass, NoMethod, NoStatement, NoLine, NoAccess}
 use Rattle.session_form.specs.Places.{HasNoClass, NamesMethod, NamesStatement, NamesNone, no_class, no_method, no_statement, IsAccess, NamesAccess, NamesNoAccess, no_place, no_access, NamesNoLine, no_such_class, no_such_line}
-use Rattle.session_form.proofs.Ordering.{Decided}
+use Rattle.slicer_ids.proofs.Ordering.{Decided}
 
 -- ---- whether two of a kind are equal
 pub same_bytes : (a b : List ℕ) → Decided (a ≡ b)

@@ -1,4 +1,4 @@
-mod Given
-mod Fewer
-mod Measures
-mod Going
+pub mod Given
+pub mod Fewer
+pub mod Measures
+pub mod Going

@@ -1,10 +1,10 @@
-mod SubPairs
-mod TextOrder
-mod Choosing
-mod OneMethod
-mod Typing
-mod OneInstr
-mod Filing
-mod NamedTexts
-mod NamedGrowth
-mod LeastClasses
+pub mod SubPairs
+pub mod TextOrder
+pub mod Choosing
+pub mod OneMethod
+pub mod Typing
+pub mod OneInstr
+pub mod Filing
+pub mod NamedTexts
+pub mod NamedGrowth
+pub mod LeastClasses

@@ -1,9 +1,9 @@
-mod Spelling
-mod Outcomes
-mod Layers
-mod MadeKinds
-mod Adding
-mod AddedSites
-mod WholeTable
-mod Numbering
-mod EmptyProgram
+pub mod Spelling
+pub mod Outcomes
+pub mod Layers
+pub mod MadeKinds
+pub mod Adding
+pub mod AddedSites
+pub mod WholeTable
+pub mod Numbering
+pub mod EmptyProgram

@@ -1,22 +1,22 @@
-mod InOrder
-mod Counting
-mod Listing
-mod Naming
-mod Keys
-mod Meanings
-mod MethodFacts
-mod ArgumentCounts
-mod CallFacts
-mod OperandFacts
-mod KeyedItems
-mod SeenDefs
-mod SoleDefs
-mod AtPc
-mod Orders
-mod Searches
-mod LookingUp
-mod Reading
-mod Gathering
-mod OneMembers
-mod MethodPlaces
-mod Behind
+pub mod InOrder
+pub mod Counting
+pub mod Listing
+pub mod Naming
+pub mod Keys
+pub mod Meanings
+pub mod MethodFacts
+pub mod ArgumentCounts
+pub mod CallFacts
+pub mod OperandFacts
+pub mod KeyedItems
+pub mod SeenDefs
+pub mod SoleDefs
+pub mod AtPc
+pub mod Orders
+pub mod Searches
+pub mod LookingUp
+pub mod Reading
+pub mod Gathering
+pub mod OneMembers
+pub mod MethodPlaces
+pub mod Behind

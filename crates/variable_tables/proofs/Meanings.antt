@@ -9,13 +9,14 @@ use Rattle.slicer_ids.specs.declared.ids.MethodId.{MethodId}
 use Rattle.slicer_ids.specs.declared.ids.Statement.{Statement}
 use Rattle.class_form.specs.Opcodes.{IsCall}
 use Rattle.class_form.specs.declared.class_file.CodeBody.{CodeBody}
+use Rattle.class_form.specs.declared.body.Def.{Def}
 use Rattle.class_form.proofs.Indices.{index_in, index_at, there_at}
 use Rattle.dep_form.specs.declared.rules.Var.{Var}
 use Rattle.dep_form.specs.declared.rules.MethodVars.{MethodVars}
 use Rattle.dep_form.specs.declared.system.System.{System}
 use Rattle.program_form.specs.Programs.{Program, CodeOf, HasFormal}
-use Rattle.program_form.specs.Statements.{HasOpcode}
-use Rattle.program_form.specs.Facts.{Variable, ValueOf, ArgumentOf, ResultOf, ThrownBy, CaughtAt, ExceptionOf, StaticField, StaticNamed}
+use Rattle.program_form.specs.Statements.{HasOpcode, OperandIs}
+use Rattle.program_form.specs.Facts.{Variable, variable_of, ValueOf, ArgumentOf, ResultOf, ThrownBy, CaughtAt, ExceptionOf, StaticField, StaticNamed}
 use Rattle.program_form.specs.Nodes.{at}
 use Rattle.program_form.specs.Systems.{IsForeignStatic, ForeignBefore, VariableNumber, of_value, of_argument, of_result, of_thrown, of_caught, of_exception, of_field, of_foreign}
 use Rattle.constraint_form.specs.Asked.{IsReadProgram}
@@ -28,12 +29,12 @@ use Rattle.variable_tables.specs.declared.tables.OperandPlace.{OperandPlace}
 use Rattle.variable_tables.specs.declared.tables.VariableTables.{VariableTables}
 use Rattle.variable_tables.specs.Numbers.{keys_of}
 use Rattle.variable_tables.specs.Statements.{Rises}
-use Rattle.variable_tables.specs.Operands.{OperandBefore, IsRead}
+use Rattle.variable_tables.specs.Operands.{OperandBefore, IsRead, HasDefinition}
 use Rattle.variable_tables.specs.Tables.{AreNumbered, IsEntry, AreTables, HasVariables, AreNames}
 use Rattle.variable_tables.proofs.Listing.{Listed, same_var}
 use Rattle.variable_tables.proofs.Keys.{contains_key, has_key, one_var}
 use Rattle.variable_tables.proofs.Naming.{entries_listed}
-use Rattle.variable_tables.proofs.LookingUp.{of_system, to_system, def_from, exception_to, exception_from}
+use Rattle.variable_tables.proofs.LookingUp.{of_system, to_system, def_from, def_to, exception_to, exception_from}
 
 pub not_rises : (k : ℕ) → Rises k k → ⊥
 not_rises k lt = omega (arith, lt)
@@ -186,6 +187,7 @@ module _ (p : Program) (asked : IsReadProgram p) (ns : List (List ℕ × List �
       named = λ v c. let (x, e) = number_of (Named v) c in is_variable v x e;
       operands = λ u i r. operand_of u i r;
       read = λ u i c. read_of u i c;
+      apart = λ u i d x c is only n. apart_of u i d x c is only n;
     }
       where
         operand_of : (u : Statement) (i : ℕ) → ReadsObject p u i → (x : Var) × OperandNumber p s l.names u i x
@@ -203,6 +205,14 @@ module _ (p : Program) (asked : IsReadProgram p) (ns : List (List ℕ × List �
             let k : OperandPlace = record { statement = u; operand = i } in
             let (x, e) = number_of (Operand u i) c in
             All-contains (IsRead p) (keys_of t.operands) k behind.operands.each (contains_key t.operands k x e)
+
+        apart_of : (u : Statement) (i : ℕ) (d : Def) (x : Var) → Contains l.names (Operand u i) → OperandIs p u i d → ((e : Def) → OperandIs p u i e → e ≡ d)
+            → VariableNumber p s (variable_of u.method d) x → ⊥
+        apart_of u i d x c is only number =
+            let (n, numbered, behind) = tables.numbered in
+            let k : OperandPlace = record { statement = u; operand = i } in
+            let (y, e) = number_of (Operand u i) c in
+            All-contains (λ z. HasDefinition p t.methods z → ⊥) (keys_of t.operands) k behind.operands.apart (contains_key t.operands k y e) (d, x, (is, only), def_to p s t has u.method d x number)
 
     pub names_of : AreNames p t l.names
     names_of = record {

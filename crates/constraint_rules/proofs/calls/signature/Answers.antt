@@ -1,0 +1,10 @@
+use Rattle.std.proofs.Common.{sym}
+use Rattle.constraint_rules.specs.Naming.{key_in}
+use Rattle.constraint_rules.proofs.OfCalls.{signature_named, no_signature_named}
+use Rattle.constraint_rules.proofs.calls.signature.Goals as goal
+
+pub returns-in-Some : goal.returns-in-Some
+returns-in-Some c = λ p s names set placed. signature_named c.args.t.now c.args.x.now p s names set placed (key_in c.in-Some.r) c.signature_of.result (sym c.in-Some.ensures) (c.signature_of.ensures p s names set)
+
+pub returns-in-None : goal.returns-in-None
+returns-in-None c = λ p s names set placed. no_signature_named c.args.t.now c.args.x.now p s names set placed (sym c.in-None.ensures)

@@ -1,0 +1,11 @@
+pub mod One
+pub mod Forms
+pub mod Statements
+pub mod Settings
+pub mod Slots
+pub mod Handlers
+pub mod Supers
+pub mod Naming
+pub mod Calls
+pub mod Needs
+pub mod Entries

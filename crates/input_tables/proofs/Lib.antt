@@ -1,0 +1,10 @@
+pub mod Outcomes
+pub mod Keyed
+pub mod StepOrder
+pub mod ControlFlow
+pub mod EffectOrder
+pub mod Collecting
+pub mod PlaceOrder
+pub mod UseOrder
+pub mod MethodUses
+pub mod HeapNumbers

@@ -1,0 +1,1 @@
+use Rattle.input_tables.proofs.controls.of_points.Goals as goal

@@ -1,0 +1,5 @@
+pub mod Control
+pub mod Scenes
+pub mod Effects
+pub mod Places
+pub mod Uses

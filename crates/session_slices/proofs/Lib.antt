@@ -1,0 +1,4 @@
+pub mod Listing
+pub mod Slicing
+pub mod LineOrder
+pub mod LineGrowth

@@ -1,0 +1,31 @@
+use Rattle.std.proofs.Common.{Contains, arith}
+use Rattle.summary_memo.specs.Memo.{view_of}
+use Rattle.thin_slice.specs.Walks.{seeds_of}
+use Rattle.session_slices.proofs.Slicing.{on_ok_to, statements_of_seeds, needed_of_seeds, needed_for_seeds}
+use Rattle.session_slices.proofs.finder.SliceFinder.find_from.Goals as goal
+
+pub start-requires : goal.start-requires
+start-requires g c = (c.args.f.now, c.requires.finder.walk, c.requires.seeds)
+
+pub finish-requires-clause-walking : goal.finish-requires-clause-walking
+finish-requires-clause-walking g c = c.start.ensures.walking c.args.f.now c.args.mode c.requires.finder.walk
+
+pub returns-clause-finder : goal.returns-clause-finder
+returns-clause-finder g c = record {
+  walk = c.finish.ensures.walk;
+  size = c.requires.finder.size;
+  nodes = c.requires.finder.nodes;
+  statements = omega (arith, c.requires.finder.size, c.finish.ensures.room);
+}
+
+pub returns-clause-statements : goal.returns-clause-statements
+returns-clause-statements g c =
+    on_ok_to c.finish.result (statements_of_seeds c.args.f.now c.args.mode (Contains (seeds_of c.start.new.self)) (Contains c.args.seeds.now) c.start.ensures.seeds c.finish.new.found.items) c.finish.ensures.statements
+
+pub returns-clause-needed : goal.returns-clause-needed
+returns-clause-needed g c =
+    on_ok_to c.finish.result (needed_of_seeds c.args.f.now c.args.mode (Contains (seeds_of c.start.new.self)) (Contains c.args.seeds.now) c.start.ensures.seeds c.finish.new.pass (view_of c.finish.new.seat)) c.finish.ensures.needed
+
+pub returns-clause-had : goal.returns-clause-had
+returns-clause-had g c = λ h.
+    c.finish.ensures.had (needed_for_seeds c.args.f.now c.args.mode (Contains (seeds_of c.start.new.self)) (Contains c.args.seeds.now) c.start.ensures.seeds c.args.pass.now (view_of c.args.seat.now) h)

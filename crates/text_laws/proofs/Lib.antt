@@ -1,0 +1,15 @@
+pub mod TwoFacts
+pub mod Numbers
+pub mod SameNodes
+pub mod SamePaths
+pub mod SameEdges
+pub mod SameSlices
+pub mod SameNames
+pub mod SamePlaces
+pub mod SameExplanations
+pub mod SameAnswers
+pub mod SiteTypes
+pub mod SameTexts
+pub mod SameScripts
+pub mod LeastText
+pub mod AcceptedPrograms

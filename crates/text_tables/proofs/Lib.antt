@@ -1,0 +1,14 @@
+pub mod ClassNames
+pub mod Options
+pub mod Answered
+pub mod Keyed
+pub mod Placed
+pub mod TypeTexts
+pub mod MadeTexts
+pub mod PlaceOrder
+pub mod Runs
+pub mod SiteTables
+pub mod LineMeaning
+pub mod BodyLines
+pub mod TextTables
+pub mod LineTables

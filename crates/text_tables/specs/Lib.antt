@@ -1,0 +1,5 @@
+pub mod Found
+pub mod SiteTexts
+pub mod SiteNames
+pub mod MethodLines
+pub mod LineGroups
