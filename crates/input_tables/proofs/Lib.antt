@@ -8,3 +8,10 @@ pub mod PlaceOrder
 pub mod UseOrder
 pub mod MethodUses
 pub mod HeapNumbers
+pub mod EdgeOrder
+pub mod RowEdges
+pub mod OperandEdges
+pub mod EdgeNumbers
+pub mod PointKinds
+pub mod Passing
+pub mod ExitEdges

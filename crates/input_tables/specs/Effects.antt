@@ -1,5 +1,5 @@
 -- Which statements define and use which locations, part by part.
-use Rattle.std.specs.Prelude.{◌≡◌, ◌⊎◌, ◌↔◌, ◌<◌, ℕ, Bool, true, false, List, Option, Some, Contains, length, slice_get}
+use Rattle.std.specs.Prelude.{◌≡◌, ◌⊎◌, ◌↔◌, ℕ, Bool, true, false, List, Option, Some, Contains, length, slice_get}
 use Rattle.std.specs.declared.cmp.Ordering.{Ordering}
 use Rattle.slicer_ids.specs.declared.ids.CallId.{CallId}
 use Rattle.slicer_ids.specs.declared.ids.FieldId.{FieldId}

@@ -3,3 +3,5 @@ pub mod Scenes
 pub mod Effects
 pub mod Places
 pub mod Uses
+pub mod Edges
+pub mod Exits

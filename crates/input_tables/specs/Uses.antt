@@ -1,5 +1,5 @@
 -- Definitions and uses of locations by the numbers of points and nodes.
-use Rattle.std.specs.Prelude.{◌≡◌, ◌⊎◌, ◌↔◌, ◌≤◌, ◌+◌, ◌-◌, ℕ, Bool, true, false, List, Option, Some, AllPairs, Contains, slice_get}
+use Rattle.std.specs.Prelude.{◌≡◌, ◌⊎◌, ◌↔◌, ◌≤◌, ◌+◌, ◌-◌, ℕ, Bool, true, false, List, Option, Some, Contains, slice_get}
 use Rattle.slicer_ids.specs.Sets.{IsOrderedListOf}
 use Rattle.slicer_ids.specs.declared.ids.LocId.{LocId}
 use Rattle.slicer_ids.specs.declared.ids.MethodId.{MethodId}

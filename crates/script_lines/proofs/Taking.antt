@@ -225,6 +225,6 @@ read_on script lines rest q left (Some n) h end w =
     let none = nothing_unread q.chunk.items q.at q.end (omega (arith, h.0)) in
     let empty = end h.0 w.0 w.1 in
     elim h.1 [
-      | inl e ↦ subst (Comes script lines q left) (sym e.0) (comes_end script lines rest q w.0 w.3 none empty (kept_none rest (sym w.2 ∙ e.1)))
-      | inr e ↦ subst (Comes script lines q left) (sym e.0) (rest, w.3.last, w.2, comes_last script lines rest q w.0 w.3 none empty (λ n. e.1 (w.2 ∙ none_kept rest n)))
+      | inl e ↦ subst (Comes script lines q left) (sym e.0) (comes_end script lines rest q w.0 w.3 none empty (kept_none rest (sym w.2 ∙ e.1)), w.1 ∙ ap Some empty)
+      | inr e ↦ subst (Comes script lines q left) (sym e.0) (rest, w.3.last, w.2, comes_last script lines rest q w.0 w.3 none empty (λ n. e.1 (w.2 ∙ none_kept rest n)), w.1 ∙ ap Some empty)
     ]

@@ -36,10 +36,10 @@ IsBetween script lines r left = (l : List ℕ) × (left ≡ Some l) × HasTaken 
 abbrev pub IsWithin : List ℕ → List (List ℕ) → List ℕ → ScriptReader → Option (List ℕ) → Type 0
 IsWithin script lines rest r left = (l : List ℕ) × (left ≡ Some l) × (line_in r ≡ take kept_bytes rest) × HasTaken script lines rest r l
 
--- what comes after these lines
+-- what comes after these lines; after the last one, and at the end, nothing is left
 abbrev pub Comes : List ℕ → List (List ℕ) → ScriptReader → Option (List ℕ) → Next → Type 0
 Comes script lines r left Line = (l : List ℕ) × IsOneLine l × (line_in r ≡ take kept_bytes l) × IsBetween script (lines ++ (l ∷ [])) r left
-Comes script lines r left Last = (l : List ℕ) × IsOneLine l × (line_in r ≡ take kept_bytes l) × AreLines script false (lines ++ (l ∷ []))
-Comes script lines r left End = AreLines script false lines
+Comes script lines r left Last = (l : List ℕ) × IsOneLine l × (line_in r ≡ take kept_bytes l) × AreLines script false (lines ++ (l ∷ [])) × (left ≡ Some [])
+Comes script lines r left End = AreLines script false lines × (left ≡ Some [])
 Comes script lines r left TooLong = AreLines script true lines
 Comes script lines r left Fault = Unit {0}

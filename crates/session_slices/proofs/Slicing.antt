@@ -21,7 +21,7 @@ use Rattle.summary_memo.specs.Places.{gate_of}
 use Rattle.summary_memo.specs.Rule.{Knows}
 use Rattle.thin_slice.specs.Walks.{IsAllFetched}
 use Rattle.thin_slice.proofs.Located.{node_below}
-use Rattle.session_walk.specs.Knowledge.{Sees, KnowsRows}
+use Rattle.session_walk.specs.Knowledge.{Sees, KnowsRows, HasRows}
 use Rattle.session_slices.specs.Needs.{SliceOf, HasNeeded}
 
 pub same_slice : (f : Facts) (mode : Mode) (S T : NodeId → Type 0) → ((n : NodeId) → S n → T n) → (n : NodeId) → SliceOf f mode S n → SliceOf f mode T n
@@ -79,6 +79,9 @@ module _ (f : Facts) (mode : Mode) (S T : NodeId → Type 0) (same : (n : NodeId
 
   pub needed_for_seeds : (p : GraphPass) (v : View) → HasNeeded f mode (SliceOf f mode T) p v → HasNeeded f mode (SliceOf f mode S) p v
   needed_for_seeds p v h = needed_reworded f mode (SliceOf f mode T) (SliceOf f mode S) p v (λ n. (same_seeds f mode S T same n).0) h
+
+  pub rows_for_seeds : (v : View) → HasRows f mode (SliceOf f mode T) v → HasRows f mode (SliceOf f mode S) v
+  rows_for_seeds v h = λ e x. h e (x.0, x.1, (same_seeds f mode S T same x.0).0 x.2)
 
 pub on_ok_to : {X E P Q : Type 0} (r : Result X E) → (P → Q) → OnOk r P → OnOk r Q
 on_ok_to (Ok x) to h = to h

@@ -10,6 +10,7 @@ ghost use Rattle.dep_form.specs.Slices.{StatementsOf};
 ghost use Rattle.graph_store.specs.Store.{IsPassOf, HasInputsOf, Keeps};
 ghost use Rattle.summary_memo.specs.Memo.{facts_of, view_of, IsSeatOf};
 ghost use Rattle.summary_memo.specs.Rule.{Knows};
+ghost use Rattle.session_walk.specs.Knowledge.{HasRows};
 ghost use Rattle.session_slices.specs.Needs.{SliceOf, HasNeeded};
 ghost use Rattle.session_slices.specs.Rooms.{IsFinderOf, statements_in};
 
@@ -60,6 +61,7 @@ fn slice_of_access<'s, L: Ledger>(
     ensures statements { IfOk result (λ v. IsOrderedListOf StatementBefore v.items (StatementsOf f.now.inputs (SliceOf f.now Thin (Contains a.now.object)))) }
     ensures needed { OnOk result (HasNeeded f.now Thin (SliceOf f.now Thin (Contains a.now.object)) pass.new (view_of seat.new)) }
     ensures had { HasNeeded f.now Thin (SliceOf f.now Thin (Contains a.now.object)) pass.old (view_of seat.old) → steps.new ≡ steps.old }
+    ensures rows { HasRows f.now Thin (SliceOf f.now Thin (Contains a.now.object)) (view_of seat.old) → steps.new ≡ steps.old }
 {
     finder.find_from(
         alloc,
@@ -77,7 +79,7 @@ fn slice_of_access<'s, L: Ledger>(
 }
 
 /// How two accesses come to one object, by the thin slices of what produces their objects. Each graph and row that these need and
-/// that the session hasn't is fetched; where the session has them all, no turn is taken.
+/// that the session hasn't is fetched; where the session knows the rows, no turn is taken.
 pub fn explain_two<'s, L: Ledger>(
     alloc: Global,
     f: &Facts,
@@ -107,6 +109,7 @@ pub fn explain_two<'s, L: Ledger>(
     ensures left_needed { OnOk result (HasNeeded f.now Thin (SliceOf f.now Thin (Contains a.now.object)) pass.new (view_of seat.new)) }
     ensures right_needed { OnOk result (HasNeeded f.now Thin (SliceOf f.now Thin (Contains b.now.object)) pass.new (view_of seat.new)) }
     ensures had { HasNeeded f.now Thin (SliceOf f.now Thin (Contains a.now.object)) pass.old (view_of seat.old) → HasNeeded f.now Thin (SliceOf f.now Thin (Contains b.now.object)) pass.old (view_of seat.old) → steps.new ≡ steps.old }
+    ensures rows { HasRows f.now Thin (SliceOf f.now Thin (Contains a.now.object)) (view_of seat.old) → HasRows f.now Thin (SliceOf f.now Thin (Contains b.now.object)) (view_of seat.old) → steps.new ≡ steps.old }
 {
     let left = slice_of_access(alloc, f, store, pass, memo, seat, finder, a, steps)?;
     let right = slice_of_access(alloc, f, store, pass, memo, seat, finder, b, steps)?;

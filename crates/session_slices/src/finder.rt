@@ -9,6 +9,7 @@ ghost use Rattle.graph_store.specs.Store.{IsPassOf, HasInputsOf, Keeps};
 ghost use Rattle.summary_memo.specs.Memo.{facts_of, view_of, IsSeatOf};
 ghost use Rattle.summary_memo.specs.Rule.{Knows};
 ghost use Rattle.thin_slice.specs.Walks.{IsWalkOf, IsWalking, IsFresh, seeds_of};
+ghost use Rattle.session_walk.specs.Knowledge.{HasRows};
 ghost use Rattle.session_slices.specs.Needs.{SliceOf, HasNeeded};
 ghost use Rattle.session_slices.specs.Rooms.{IsFinderOf, statements_in};
 
@@ -67,6 +68,7 @@ fn finish<'s, L: Ledger>(
     ensures statements { OnOk result (IsOrderedListOf StatementBefore found.new.items (StatementsOf f.now.inputs (SliceOf f.now mode (Contains (seeds_of walk.old))))) }
     ensures needed { OnOk result (HasNeeded f.now mode (SliceOf f.now mode (Contains (seeds_of walk.old))) pass.new (view_of seat.new)) }
     ensures had { HasNeeded f.now mode (SliceOf f.now mode (Contains (seeds_of walk.old))) pass.old (view_of seat.old) → (result ≡ Ok tt) × (steps.new ≡ steps.old) }
+    ensures rows { HasRows f.now mode (SliceOf f.now mode (Contains (seeds_of walk.old))) (view_of seat.old) → steps.new ≡ steps.old }
 {
     walk_on(alloc, f, store, pass, memo, seat, walk, mode, steps)?;
     list_statements(f, walk, size, found);
@@ -98,7 +100,8 @@ impl SliceFinder {
     }
 
     /// Finds the slice of some nodes in a mode: thin with no access expanded, or full. Each graph and row that it needs and that the
-    /// session hasn't is fetched. Where the session has them all, the call takes no memory and no turn, and answers Ok.
+    /// session hasn't is fetched. Where the session has them all, the call takes no memory and no turn, and answers Ok; where it knows the
+    /// rows alone, the call takes no turn.
     pub fn find_from<'s, L: Ledger>(
         &mut self,
         alloc: Global,
@@ -126,6 +129,7 @@ impl SliceFinder {
         ensures statements { OnOk result (IsOrderedListOf StatementBefore (statements_in self.new) (StatementsOf f.now.inputs (SliceOf f.now mode (Contains seeds.now)))) }
         ensures needed { OnOk result (HasNeeded f.now mode (SliceOf f.now mode (Contains seeds.now)) pass.new (view_of seat.new)) }
         ensures had { HasNeeded f.now mode (SliceOf f.now mode (Contains seeds.now)) pass.old (view_of seat.old) → (result ≡ Ok tt) × (steps.new ≡ steps.old) }
+        ensures rows { HasRows f.now mode (SliceOf f.now mode (Contains seeds.now)) (view_of seat.old) → steps.new ≡ steps.old }
     {
         self.walk.start(seeds);
         finish(
@@ -171,6 +175,7 @@ impl SliceFinder {
         ensures statements { OnOk result (IsOrderedListOf StatementBefore (statements_in self.new) (StatementsOf f.now.inputs (SliceOf f.now mode (NodesOf f.now.inputs (Contains seeds.now))))) }
         ensures needed { OnOk result (HasNeeded f.now mode (SliceOf f.now mode (NodesOf f.now.inputs (Contains seeds.now))) pass.new (view_of seat.new)) }
         ensures had { HasNeeded f.now mode (SliceOf f.now mode (NodesOf f.now.inputs (Contains seeds.now))) pass.old (view_of seat.old) → (result ≡ Ok tt) × (steps.new ≡ steps.old) }
+        ensures rows { HasRows f.now mode (SliceOf f.now mode (NodesOf f.now.inputs (Contains seeds.now))) (view_of seat.old) → steps.new ≡ steps.old }
     {
         list_nodes(f, self.size, seeds, &mut self.nodes);
         self.walk.start(self.nodes.as_slice());

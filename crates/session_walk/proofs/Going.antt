@@ -20,8 +20,8 @@ use Rattle.thin_slice.specs.declared.needs.Phase.{Phase}
 use Rattle.thin_slice.specs.declared.needs.Phase.TheVariants.{Up}
 use Rattle.thin_slice.specs.declared.walk.Walk.{Walk}
 use Rattle.thin_slice.specs.Needs.{is_need, IsServed}
-use Rattle.thin_slice.specs.Walks.{AreServed, IsFetched, IsCause, IsAllFetched, WhenFinished, IsFresh, IsTaken, nodes_of}
-use Rattle.session_walk.specs.Knowledge.{Sees, KnowsRows, IsNamed}
+use Rattle.thin_slice.specs.Walks.{AreServed, IsFetched, IsCause, IsAllFetched, ModeSlice, WhenFinished, IsFresh, IsTaken, nodes_of}
+use Rattle.session_walk.specs.Knowledge.{Sees, KnowsRows, HasRows, IsNamed, IsNoRow}
 use Rattle.session_walk.proofs.Given.{given_is_seen}
 use Rattle.session_walk.specs.Missing.{has_graph, has_row, all_missing}
 use Rattle.session_walk.proofs.Measures.{none_or, seen_has_graph, knows_has_row, has_row_knows, knows_kept, less_by_graph, less_by_row, no_more}
@@ -108,6 +108,21 @@ pub all_kept : (f : Facts) (mode : Mode) (p q : GraphPass) (v w : View) (seeds a
 all_kept f mode p q v w seeds again keeps knows same all =
     subst (λ s. IsAllFetched f mode s (Sees f q) (KnowsRows f mode w)) (sym same)
     (record { graphs = λ m at. seen_kept f p q m keeps (all.graphs m at); rows = λ e at. knows_kept f mode v w e knows (all.rows e at) })
+
+-- .. and so do the rows that are known
+pub rows_kept : (f : Facts) (mode : Mode) (P : NodeId → Type 0) (v w : View) → Knows v w → HasRows f mode P v → HasRows f mode P w
+rows_kept f mode P v w knows has = λ e at. knows_kept f mode v w e knows (has e at)
+
+pub rows_again : (f : Facts) (mode : Mode) (v w : View) (seeds again : List NodeId) → Knows v w → again ≡ seeds → HasRows f mode (ModeSlice f mode seeds) v → HasRows f mode (ModeSlice f mode again) w
+rows_again f mode v w seeds again knows same has =
+    subst (λ s. HasRows f mode (ModeSlice f mode s) w) (sym same) (rows_kept f mode (ModeSlice f mode seeds) v w knows has)
+
+-- where each row is known that the slice needs, none is named
+pub no_row_named : (f : Facts) (mode : Mode) (seeds : List NodeId) (Seen : MethodId → Type 0) (v w : View) (go : Go) → Knows v w → HasRows f mode (ModeSlice f mode seeds) v
+    → IsCause f mode seeds Seen (KnowsRows f mode w) go → IsNoRow go
+no_row_named f mode seeds Seen v w Finished knows has c = tt
+no_row_named f mode seeds Seen v w (NeedsGraph m) knows has c = tt
+no_row_named f mode seeds Seen v w (NeedsRow e) knows has c = absurd (c.1 (knows_kept f mode v w e knows (has e c.0)))
 
 -- an error is no answer
 pub not_both : {A E : Type 0} (e : E) (a : A) → ◌≡◌ {A = Result A E} (Err e) (Ok a) → ⊥

@@ -8,7 +8,7 @@ ghost use Rattle.summary_memo.specs.Rule.{Knows};
 ghost use Rattle.thin_slice.specs.Needs.{is_need};
 ghost use Rattle.thin_slice.specs.Walks.{IsWalkOf, IsWalking, IsFresh, AreServed, IsFetched, IsCause, IsAllFetched, ModeSlice, WhenFinished, nodes_of, seeds_of};
 ghost use Rattle.session_walk.specs.Missing.{all_missing};
-ghost use Rattle.session_walk.specs.Knowledge.{Sees, KnowsRows, IsNamed};
+ghost use Rattle.session_walk.specs.Knowledge.{Sees, KnowsRows, HasRows, IsNamed, IsNoRow};
 
 use crate::known::SeatView;
 use crate::seen::PassView;
@@ -126,6 +126,7 @@ fn fetch<'s, L: Ledger>(
     ensures seat { IsSeatOf memo.now seat.new }
     ensures knows { Knows (view_of seat.old) (view_of seat.new) }
     ensures fetched { OnOk result (IsFetched (Sees f.now pass.new) (KnowsRows f.now mode (view_of seat.new)) go) }
+    ensures no_turn { IsNoRow go → steps.new ≡ steps.old }
 {
     match go {
         Go::Finished => Ok(()),
@@ -166,6 +167,7 @@ fn step<'s, L: Ledger>(
     ensures slice { result ≡ Ok false → (n : NodeId) → Contains (nodes_of walk.new) n ↔ ModeSlice f.now mode (seeds_of walk.old) n }
     ensures fetched { result ≡ Ok false → IsAllFetched f.now mode (seeds_of walk.old) (Sees f.now pass.new) (KnowsRows f.now mode (view_of seat.new)) }
     ensures had { IsAllFetched f.now mode (seeds_of walk.old) (Sees f.now pass.old) (KnowsRows f.now mode (view_of seat.old)) → (result ≡ Ok false) × (steps.new ≡ steps.old) }
+    ensures rows { HasRows f.now mode (ModeSlice f.now mode (seeds_of walk.old)) (view_of seat.old) → steps.new ≡ steps.old }
 {
     let go = advance(f, store, pass, memo, seat, walk, mode);
     if !names(go) {
@@ -177,8 +179,8 @@ fn step<'s, L: Ledger>(
 
 /// Goes on from a start until the slice was found, and fetches each graph and row that it needs and that the session hasn't: a graph
 /// from the method's cell or its input, a row from the shared words or by tabulation (after Horwitz, Reps and Binkley, TOPLAS 1990).
-/// Where the session has all that the slice needs, the call takes no memory and no turn, and answers Ok. What the session had it has
-/// after want of memory too.
+/// Where the session has all that the slice needs, the call takes no memory and no turn, and answers Ok; where it knows the rows alone,
+/// the call takes no turn. What the session had it has after want of memory too.
 pub fn walk_on<'s, L: Ledger>(
     alloc: Global,
     f: &Facts,
@@ -205,6 +207,7 @@ pub fn walk_on<'s, L: Ledger>(
     ensures slice { OnOk result ((n : NodeId) → Contains (nodes_of walk.new) n ↔ ModeSlice f.now mode (seeds_of walk.old) n) }
     ensures fetched { OnOk result (IsAllFetched f.now mode (seeds_of walk.old) (Sees f.now pass.new) (KnowsRows f.now mode (view_of seat.new))) }
     ensures had { IsAllFetched f.now mode (seeds_of walk.old) (Sees f.now pass.old) (KnowsRows f.now mode (view_of seat.old)) → (result ≡ Ok tt) × (steps.new ≡ steps.old) }
+    ensures rows { HasRows f.now mode (ModeSlice f.now mode (seeds_of walk.old)) (view_of seat.old) → steps.new ≡ steps.old }
 {
     while step(alloc, f, store, pass, memo, seat, walk, mode, steps)? {}
     Ok(())

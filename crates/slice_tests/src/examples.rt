@@ -16,24 +16,28 @@ fn edge(from: u32, to: u32, label: Label) -> Edge {
     }
 }
 
-fn thin(from: u32, to: u32) -> Edge {
+/// A flow of a value.
+pub fn thin(from: u32, to: u32) -> Edge {
     edge(from, to, Label::Thin)
 }
 
-fn base(from: u32, to: u32) -> Edge {
+/// A use of a base pointer or an index.
+pub fn base(from: u32, to: u32) -> Edge {
     edge(from, to, Label::Base)
 }
 
-fn call(c: u32, from: u32, to: u32) -> Edge {
+/// What a call hands to a formal.
+pub fn call(c: u32, from: u32, to: u32) -> Edge {
     edge(from, to, Label::Call(CallId(c)))
 }
 
-fn back(c: u32, from: u32, to: u32) -> Edge {
+/// What a call gets back.
+pub fn back(c: u32, from: u32, to: u32) -> Edge {
     edge(from, to, Label::Return(CallId(c)))
 }
 
-// The facts, with a root that calls methods without arguments.
-fn whole(
+/// The facts, with a root that calls methods without arguments.
+pub fn whole(
     alloc: Global,
     mut program: SmallProgram,
     exits: &[NodeId],
@@ -124,7 +128,8 @@ pub fn recursion(alloc: Global) -> Result<Option<Facts>, NoMemory> {
     whole(alloc, program, &[NodeId(12)], Vec::new(alloc))
 }
 
-fn access(
+/// An access whose object is produced at a node.
+pub fn access(
     alloc: Global,
     method: u32,
     pc: u16,
@@ -153,7 +158,8 @@ pub fn field_written_by_a_call(alloc: Global) -> Result<Option<Facts>, NoMemory>
     whole(alloc, program, &[NodeId(5)], accesses)
 }
 
-fn add_setter(program: &mut SmallProgram) -> Result<bool, NoMemory> {
+/// Adds the method that writes a field, as the first one.
+pub fn add_setter(program: &mut SmallProgram) -> Result<bool, NoMemory> {
     let nodes = [
         Node::Formal(0),
         Node::Formal(1),
@@ -179,7 +185,8 @@ fn add_setter(program: &mut SmallProgram) -> Result<bool, NoMemory> {
     program.add_with_heap(&nodes, &edges, &heap)
 }
 
-fn add_reader(program: &mut SmallProgram) -> Result<bool, NoMemory> {
+/// Adds the method that calls it and reads the field.
+pub fn add_reader(program: &mut SmallProgram) -> Result<bool, NoMemory> {
     let nodes = [
         Node::Own(0),
         Node::Own(3),

@@ -2,6 +2,9 @@
 #![tactic(auto)]
 
 pub mod counted;
+#[cfg(test)]
+mod dependence_tests;
+pub mod dependences;
 pub mod edges;
 pub mod examples;
 pub mod sliced;

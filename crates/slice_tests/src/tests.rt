@@ -38,8 +38,8 @@ fn slices_to<L: Ledger>(
     Ok(())
 }
 
-// The same, with a count for nobody.
-fn walks_to(
+/// Whether a seed's slice has these nodes, with a count for nobody.
+pub fn walks_to(
     rt: &impl Abort,
     alloc: Global,
     f: &Facts,
@@ -124,7 +124,12 @@ fn is_same(walked: &[u32], found: &[NodeId]) -> bool {
     walked.len() == found.len()
 }
 
-fn agrees_everywhere(rt: &impl Abort, alloc: Global, facts: Option<Facts>) -> Result<(), NoMemory> {
+/// Whether the walk and the saturation find the same slices of all seeds.
+pub fn agrees_everywhere(
+    rt: &impl Abort,
+    alloc: Global,
+    facts: Option<Facts>,
+) -> Result<(), NoMemory> {
     let facts = facts.expect(rt, "facts");
     let edges = edges_of(alloc, &facts)?;
     let thin = expanded_edges(alloc, &edges, &[])?;

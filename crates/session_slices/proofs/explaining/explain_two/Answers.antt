@@ -5,7 +5,7 @@ use Rattle.slicer_ids.specs.Order.{StatementBefore}
 use Rattle.slicer_ids.specs.Sets.{IsOrderedListOf}
 use Rattle.dep_form.specs.Slices.{Slice, Nothing, StatementsOf}
 use Rattle.summary_memo.specs.Memo.{view_of}
-use Rattle.session_walk.proofs.Going.{keeps_all, knows_all}
+use Rattle.session_walk.proofs.Going.{keeps_all, knows_all, rows_kept}
 use Rattle.session_slices.specs.Needs.{SliceOf}
 use Rattle.session_slices.proofs.Slicing.{needed_later, on_ok}
 use Rattle.session_slices.proofs.explaining.explain_two.Goals as goal
@@ -51,3 +51,15 @@ returns-in_err-right-clause-keeps g c = keeps_all c.args.pass.now c.slice_of_acc
 
 pub returns-in_err-right-clause-knows : goal.returns-in_err-right-clause-knows
 returns-in_err-right-clause-knows g c = knows_all (view_of c.args.seat.now) (view_of c.slice_of_access.new.seat) (view_of c.slice_of_access-2.new.seat) c.in_ok-left.ensures.knows c.in_err-right.ensures.knows
+
+pub returns-clause-rows : goal.returns-clause-rows
+returns-clause-rows g c = λ left right.
+    c.in_ok-right.ensures.rows
+    (rows_kept c.args.f.now Thin (SliceOf c.args.f.now Thin (Contains c.args.b.now.object)) (view_of c.args.seat.now) (view_of c.slice_of_access.new.seat) c.in_ok-left.ensures.knows right)
+    ∙ c.in_ok-left.ensures.rows left
+
+pub returns-in_err-right-clause-rows : goal.returns-in_err-right-clause-rows
+returns-in_err-right-clause-rows g c = λ left right.
+    c.in_err-right.ensures.rows
+    (rows_kept c.args.f.now Thin (SliceOf c.args.f.now Thin (Contains c.args.b.now.object)) (view_of c.args.seat.now) (view_of c.slice_of_access.new.seat) c.in_ok-left.ensures.knows right)
+    ∙ c.in_ok-left.ensures.rows left

@@ -7,6 +7,7 @@ use Rattle.slicer_ids.specs.Sets.{IsOrderedListOf}
 use Rattle.dep_form.specs.Firsts.{node_count}
 use Rattle.dep_form.specs.Slices.{StatementsOf}
 use Rattle.summary_memo.specs.Memo.{view_of}
+use Rattle.session_walk.specs.Knowledge.{HasRows}
 use Rattle.session_slices.specs.Needs.{SliceOf, HasNeeded}
 use Rattle.session_slices.proofs.Slicing.{object_nodes}
 use Rattle.session_slices.proofs.explaining.slice_of_access.Goals as goal
@@ -35,3 +36,15 @@ returns-in_err-find_from-clause-had g c = λ h.
 pub returns-in_err-statements-clause-had : goal.returns-in_err-statements-clause-had
 returns-in_err-statements-clause-had g c = λ h.
     (c.in_ok-find_from.ensures.had (subst (λ (ns : List NodeId). HasNeeded c.args.f.now Thin (SliceOf c.args.f.now Thin (Contains ns)) c.args.pass.now (view_of c.args.seat.now)) (sym c.items.ensures) h)).1
+
+pub returns-clause-rows : goal.returns-clause-rows
+returns-clause-rows g c = λ h.
+    c.in_ok-find_from.ensures.rows (subst (λ (ns : List NodeId). HasRows c.args.f.now Thin (SliceOf c.args.f.now Thin (Contains ns)) (view_of c.args.seat.now)) (sym c.items.ensures) h)
+
+pub returns-in_err-find_from-clause-rows : goal.returns-in_err-find_from-clause-rows
+returns-in_err-find_from-clause-rows g c = λ h.
+    c.in_err-find_from.ensures.rows (subst (λ (ns : List NodeId). HasRows c.args.f.now Thin (SliceOf c.args.f.now Thin (Contains ns)) (view_of c.args.seat.now)) (sym c.items.ensures) h)
+
+pub returns-in_err-statements-clause-rows : goal.returns-in_err-statements-clause-rows
+returns-in_err-statements-clause-rows g c = λ h.
+    c.in_ok-find_from.ensures.rows (subst (λ (ns : List NodeId). HasRows c.args.f.now Thin (SliceOf c.args.f.now Thin (Contains ns)) (view_of c.args.seat.now)) (sym c.items.ensures) h)

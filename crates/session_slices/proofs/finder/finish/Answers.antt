@@ -22,3 +22,9 @@ returns-clause-had g c = λ h. (refl, (c.walk_on.ensures.had (needed_all c.args.
 pub returns-in_err-walk_on-clause-had : goal.returns-in_err-walk_on-clause-had
 returns-in_err-walk_on-clause-had g c = λ h.
     absurd (never _ (c.in_err-walk_on.ensures.had (needed_all c.args.f.now c.args.mode (seeds_of c.args.walk.now) c.args.pass.now (view_of c.args.seat.now) h)).0)
+
+pub returns-clause-rows : goal.returns-clause-rows
+returns-clause-rows g c = λ h. c.walk_on.ensures.rows h
+
+pub returns-in_err-walk_on-clause-rows : goal.returns-in_err-walk_on-clause-rows
+returns-in_err-walk_on-clause-rows g c = λ h. c.in_err-walk_on.ensures.rows h

@@ -4,7 +4,7 @@ use Rattle.slicer_ids.specs.declared.ids.NodeId.{NodeId}
 use Rattle.summary_memo.specs.Memo.{view_of}
 use Rattle.thin_slice.specs.Walks.{ModeSlice, nodes_of, seeds_of}
 use Rattle.session_walk.specs.Knowledge.{Sees, KnowsRows}
-use Rattle.session_walk.proofs.Going.{is_named, served_kept, none_named, less_since, is_finished, keeps_self}
+use Rattle.session_walk.proofs.Going.{is_named, served_kept, none_named, less_since, is_finished, keeps_self, no_row_named}
 use Rattle.session_walk.proofs.walking.step.Goals as goal
 
 pub returns-then-not-names-clause-slice : goal.returns-then-not-names-clause-slice
@@ -36,3 +36,15 @@ pub returns-clause-had : goal.returns-clause-had
 returns-clause-had g c = λ all.
     absurd (none_named c.args.f.now c.args.mode c.args.pass.now c.args.pass.now (view_of c.args.seat.now) (view_of c.advance-go.new.seat) (keeps_self c.args.pass.now) c.advance-go.ensures.knows
     (seeds_of c.args.walk.now) c.advance-go.result all c.advance-go.ensures.cause (sym c.if-not-names.ensures))
+
+pub returns-in_err-fetch-clause-rows : goal.returns-in_err-fetch-clause-rows
+returns-in_err-fetch-clause-rows g c = λ has.
+    c.in_err-fetch.ensures.no_turn
+    (no_row_named c.args.f.now c.args.mode (seeds_of c.args.walk.now) (Sees c.args.f.now c.args.pass.now) (view_of c.args.seat.now) (view_of c.advance-go.new.seat) c.advance-go.result
+    c.advance-go.ensures.knows has c.advance-go.ensures.cause)
+
+pub returns-clause-rows : goal.returns-clause-rows
+returns-clause-rows g c = λ has.
+    c.in_ok-fetch.ensures.no_turn
+    (no_row_named c.args.f.now c.args.mode (seeds_of c.args.walk.now) (Sees c.args.f.now c.args.pass.now) (view_of c.args.seat.now) (view_of c.advance-go.new.seat) c.advance-go.result
+    c.advance-go.ensures.knows has c.advance-go.ensures.cause)

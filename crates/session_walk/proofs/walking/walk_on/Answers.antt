@@ -4,7 +4,7 @@ use Rattle.slicer_ids.specs.declared.ids.NodeId.{NodeId}
 use Rattle.summary_memo.specs.Memo.{view_of}
 use Rattle.thin_slice.specs.Walks.{IsAllFetched, ModeSlice, nodes_of, seeds_of}
 use Rattle.session_walk.specs.Knowledge.{Sees, KnowsRows}
-use Rattle.session_walk.proofs.Going.{all_kept, keeps_all, knows_all, not_both}
+use Rattle.session_walk.proofs.Going.{all_kept, keeps_all, knows_all, not_both, rows_again}
 use Rattle.session_walk.proofs.walking.walk_on.Goals as goal
 
 pub returns-in_err-step-clause-keeps : goal.returns-in_err-step-clause-keeps
@@ -35,6 +35,8 @@ loop-preserved g c =
       last = s.last;
       had = λ all. (s.had (all_kept c.args.f.now c.args.mode c.args.pass.now c.loop.pass (view_of c.args.seat.now) (view_of c.loop.seat) (seeds_of c.args.walk.now) (seeds_of c.loop.walk) before.keeps before.knows before.seeds all)).1
           ∙ before.had all;
+      rows = λ has. s.rows (rows_again c.args.f.now c.args.mode (view_of c.args.seat.now) (view_of c.loop.seat) (seeds_of c.args.walk.now) (seeds_of c.loop.walk) before.knows before.seeds has)
+          ∙ before.rows has;
     }
 
 pub returns-clause-keeps : goal.returns-clause-keeps
@@ -53,3 +55,15 @@ returns-clause-had g c = λ all. (
   (c.in_ok-step.ensures.had (all_kept c.args.f.now c.args.mode c.args.pass.now c.loop.pass (view_of c.args.seat.now) (view_of c.loop.seat) (seeds_of c.args.walk.now) (seeds_of c.loop.walk)
       c.loop.invariant.keeps c.loop.invariant.knows c.loop.invariant.seeds all)).1 ∙ c.loop.invariant.had all,
 )
+
+pub returns-in_err-step-clause-rows : goal.returns-in_err-step-clause-rows
+returns-in_err-step-clause-rows g c = λ has.
+    c.in_err-step.ensures.rows (rows_again c.args.f.now c.args.mode (view_of c.args.seat.now) (view_of c.loop.seat) (seeds_of c.args.walk.now) (seeds_of c.loop.walk)
+    c.loop.invariant.knows c.loop.invariant.seeds has)
+    ∙ c.loop.invariant.rows has
+
+pub returns-clause-rows : goal.returns-clause-rows
+returns-clause-rows g c = λ has.
+    c.in_ok-step.ensures.rows (rows_again c.args.f.now c.args.mode (view_of c.args.seat.now) (view_of c.loop.seat) (seeds_of c.args.walk.now) (seeds_of c.loop.walk)
+    c.loop.invariant.knows c.loop.invariant.seeds has)
+    ∙ c.loop.invariant.rows has

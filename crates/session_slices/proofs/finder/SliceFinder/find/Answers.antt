@@ -3,7 +3,7 @@ use Rattle.slicer_ids.specs.declared.ids.NodeId.{NodeId}
 use Rattle.dep_form.specs.Slices.{NodesOf}
 use Rattle.summary_memo.specs.Memo.{view_of}
 use Rattle.thin_slice.specs.Walks.{seeds_of}
-use Rattle.session_slices.proofs.Slicing.{on_ok_to, statements_of_seeds, needed_of_seeds, needed_for_seeds, listed_seeds, nodes_below}
+use Rattle.session_slices.proofs.Slicing.{on_ok_to, statements_of_seeds, needed_of_seeds, needed_for_seeds, rows_for_seeds, listed_seeds, nodes_below}
 use Rattle.session_slices.proofs.finder.SliceFinder.find.Goals as goal
 
 pub start-requires : goal.start-requires
@@ -34,3 +34,8 @@ pub returns-clause-had : goal.returns-clause-had
 returns-clause-had g c = λ h.
     let same = listed_seeds c.args.f.now c.args.seeds.now (seeds_of c.start.new.self) c.as_slice.result.now c.list_nodes.new.nodes.items c.start.ensures.seeds c.as_slice.ensures.value c.list_nodes.ensures.members in
     c.finish.ensures.had (needed_for_seeds c.args.f.now c.args.mode (Contains (seeds_of c.start.new.self)) (NodesOf c.args.f.now.inputs (Contains c.args.seeds.now)) same c.args.pass.now (view_of c.args.seat.now) h)
+
+pub returns-clause-rows : goal.returns-clause-rows
+returns-clause-rows g c = λ h.
+    let same = listed_seeds c.args.f.now c.args.seeds.now (seeds_of c.start.new.self) c.as_slice.result.now c.list_nodes.new.nodes.items c.start.ensures.seeds c.as_slice.ensures.value c.list_nodes.ensures.members in
+    c.finish.ensures.rows (rows_for_seeds c.args.f.now c.args.mode (Contains (seeds_of c.start.new.self)) (NodesOf c.args.f.now.inputs (Contains c.args.seeds.now)) same (view_of c.args.seat.now) h)

@@ -1,7 +1,7 @@
 use Rattle.std.proofs.Common.{Contains, arith}
 use Rattle.summary_memo.specs.Memo.{view_of}
 use Rattle.thin_slice.specs.Walks.{seeds_of}
-use Rattle.session_slices.proofs.Slicing.{on_ok_to, statements_of_seeds, needed_of_seeds, needed_for_seeds}
+use Rattle.session_slices.proofs.Slicing.{on_ok_to, statements_of_seeds, needed_of_seeds, needed_for_seeds, rows_for_seeds}
 use Rattle.session_slices.proofs.finder.SliceFinder.find_from.Goals as goal
 
 pub start-requires : goal.start-requires
@@ -29,3 +29,7 @@ returns-clause-needed g c =
 pub returns-clause-had : goal.returns-clause-had
 returns-clause-had g c = λ h.
     c.finish.ensures.had (needed_for_seeds c.args.f.now c.args.mode (Contains (seeds_of c.start.new.self)) (Contains c.args.seeds.now) c.start.ensures.seeds c.args.pass.now (view_of c.args.seat.now) h)
+
+pub returns-clause-rows : goal.returns-clause-rows
+returns-clause-rows g c = λ h.
+    c.finish.ensures.rows (rows_for_seeds c.args.f.now c.args.mode (Contains (seeds_of c.start.new.self)) (Contains c.args.seeds.now) c.start.ensures.seeds (view_of c.args.seat.now) h)

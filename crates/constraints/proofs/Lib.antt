@@ -1,0 +1,14 @@
+mod OfPlaces
+mod OfInitializers
+mod OfFlags
+mod Standing
+mod OfCalls
+mod OfRules
+mod OfSpots
+mod OfTouches
+mod Rising
+mod Bare
+mod Bounds
+mod Tabled
+mod EmptyFolder
+mod Ending

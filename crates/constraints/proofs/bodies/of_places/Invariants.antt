@@ -1,0 +1,14 @@
+use Rattle.std.proofs.Common.{List, [], take}
+use Rattle.std.specs.Prelude.{All}
+use Rattle.worklists.specs.Growth.{FromOne}
+use Rattle.dep_form.specs.declared.system.System.{System}
+use Rattle.program_form.specs.Programs.{Program}
+use Rattle.constraint_form.specs.Variables.{Meaning}
+use Rattle.variable_tables.specs.Growth.{GrowsInOrder}
+use Rattle.constraint_rules.specs.Settings.{IsSetting, IsPlaced}
+use Rattle.constraints.specs.Bodies.{MethodRises, IsConstraintAt}
+use Rattle.constraints.proofs.bodies.of_places.Given as goal
+
+abbrev pub invariant-loop-x : goal.invariant-loop-x
+invariant-loop-x l = (p : Program) (s : System) (names : List Meaning) → IsSetting l.t p s names → All (IsPlaced p) l.places
+    → GrowsInOrder MethodRises [] l.constraints.items (FromOne (IsConstraintAt p s names) (take l.x-index l.places))

@@ -1,0 +1,10 @@
+use Rattle.worklists.specs.Growth.{FromOne}
+use Rattle.mod_ref.proofs.Gaining.{gained}
+use Rattle.input_tables.specs.Edges.{IsPointEdge}
+use Rattle.input_tables.proofs.operands.edges_on.Goals as goal
+
+pub returns-clause-members : goal.returns-clause-members
+returns-clause-members c = λ x.
+    let is = gained c.new-edges.result.items c.add_points.new.edges.items (FromOne (IsPointEdge c.args.ground.now.points.now c.args.ground.now.first c.args.ground.now.row.now c.args.body.now.shape) c.args.ground.now.points.now) c.new-edges.ensures.items c.in_ok-add_points.ensures x in
+    let same = c.in_order.ensures.members x in
+    (λ h. is.0 (same.0 h), λ h. same.1 (is.1 h))

@@ -1,0 +1,5 @@
+mod OneWriting
+mod AsMany
+mod OneServing
+mod OneRun
+mod ServedEnds

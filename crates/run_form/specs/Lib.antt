@@ -1,0 +1,4 @@
+pub mod Said
+pub mod Outputs
+pub mod Runs
+pub mod Endings

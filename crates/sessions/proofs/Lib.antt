@@ -1,0 +1,11 @@
+pub mod Listing
+pub mod Widening
+pub mod Keeping
+pub mod States
+pub mod Answering
+pub mod SliceLines
+pub mod OneReply
+pub mod ScriptReplies
+pub mod LineReplies
+pub mod Serving
+pub mod OneShown

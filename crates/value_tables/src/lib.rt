@@ -1,0 +1,11 @@
+//! What the value of each statement of a program may be.
+#![tactic(auto)]
+
+mod calls;
+mod looking;
+mod method;
+mod operands;
+mod sites;
+mod table;
+
+pub use table::value_table;

@@ -1,0 +1,5 @@
+pub mod Checks
+mod Apart
+mod Outputs
+mod Wanted
+mod Parses
