@@ -13,7 +13,5 @@ mod operands;
 mod sizes;
 mod starts;
 mod targets;
-#[cfg(test)]
-mod tests;
 
 pub use listing::decode;

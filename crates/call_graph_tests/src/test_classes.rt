@@ -1,7 +1,7 @@
 // Folders of tests: classes with one method each.
 ghost use Rattle.std.specs.Prelude.{◌≡◌, ◌≤◌, ◌+◌, ◌^◌, length, All, IfOk, OnOk};
 ghost use Rattle.class_form.specs.declared.class_file.Member.{Member};
-ghost use Rattle.hierarchy.specs.TestClasses.{HasTestTexts, IsTestClass};
+ghost use Rattle.hierarchy_tests.specs.TestClasses.{HasTestTexts, IsTestClass};
 
 use class_form::class_file::{Attribute, ClassFile, CodeBody, Content, Member};
 use class_form::pool::{Constant, Pool};

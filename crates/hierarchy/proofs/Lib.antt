@@ -12,4 +12,3 @@ pub mod Chains
 pub mod Resolving
 pub mod Answering
 pub mod Renumbering
-pub mod TestMembers

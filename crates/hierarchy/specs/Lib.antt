@@ -7,4 +7,3 @@ pub mod Places
 pub mod Numbered
 pub mod Finds
 pub mod Selections
-pub mod TestClasses

@@ -3,13 +3,9 @@
 
 mod graph;
 mod look_up;
-#[cfg(test)]
-mod look_up_tests;
 mod members;
 mod parents;
 mod sorted;
-#[cfg(test)]
-mod tests;
 pub mod tree;
 
 pub use tree::{Hierarchy, Select, TreeError, build};

@@ -74,7 +74,7 @@ module _ (p : Program) (coded : IsProgramOfCode p) (files : All IsClassFile p.cl
       let w = to_covered t h has c in
       subst (IsDefinitionNumber p m (Caught h)) (sym is) (of_exception {e = w.0} (to_kind p coded m b among of IsCall t has call) w.1 w.2)
 
-  to_def : (d : Def) (k : Node) → IsDefNode points d k → IsDefinitionNumber p m d k
+  pub to_def : (d : Def) (k : Node) → IsDefNode points d k → IsDefinitionNumber p m d k
   to_def (Argument' i) k e = subst (IsDefinitionNumber p m (Argument' i)) (sym e) of_formal
   to_def (Value pc) k (op, has, inl (never, is)) = subst (IsDefinitionNumber p m (Value pc)) (sym is) (of_value (value_kind p coded m b among of (λ o. IsCall o → ⊥) pc op has never))
   to_def (Value pc) k (op, has, inr (call, is)) = subst (IsDefinitionNumber p m (Value pc)) (sym is) (of_call (value_kind p coded m b among of IsCall pc op has call))
@@ -88,7 +88,7 @@ module _ (p : Program) (coded : IsProgramOfCode p) (files : All IsClassFile p.cl
       let c = from_covered t h e has (subst (λ (n : ℕ). IsCovered p (at m n) e) (sym place) covered) handler in
       (j.0, (t, j.1, c), (t, j.1, raised))
 
-  from_def : (d : Def) (k : Node) → IsDefinitionNumber p m d k → IsDefNode points d k
+  pub from_def : (d : Def) (k : Node) → IsDefinitionNumber p m d k → IsDefNode points d k
   from_def (Argument' i) k of_formal = refl
   from_def (Value pc) k (of_value o) = let w = from_kind p coded m b among of (λ op. IsCall op → ⊥) pc o in (w.0.op, (w.0, w.1, w.2, refl), inl (w.3, refl))
   from_def (Value pc) k (of_call o) = let w = from_kind p coded m b among of IsCall pc o in (w.0.op, (w.0, w.1, w.2, refl), inr (w.3, refl))

@@ -27,8 +27,15 @@ mod touches;
 mod uses;
 
 pub use controls::{Control, control_of};
+pub use definitions::raised_node;
+pub use edges::in_order as edges_in_order;
 pub use exits::exit_edges;
 pub use gathering::{Heap, gather};
+pub use ground::Ground;
 pub use heap::{gets, puts};
-pub use operands::operand_edges;
+pub use operands::{add_use, operand_edges};
+pub use places::place_in;
+pub use points::{body_at, find_body};
+pub use raises::raises_of;
 pub use scene::Scene;
+pub use solved::goes_outside;

@@ -30,8 +30,8 @@ fn label_of(base: bool) -> Label
     if base { Label::Base } else { Label::Thin }
 }
 
-// Adds the edges to one slot of an operand.
-fn add_use(
+/// Adds the edges to one slot of an operand.
+pub fn add_use(
     ground: &Ground<'_>,
     body: &Body,
     point: &Point,

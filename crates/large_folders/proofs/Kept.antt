@@ -4,7 +4,7 @@ use Rattle.std.specs.Prelude.{slice_get, option_and_then}
 use Rattle.class_form.specs.Pools.{constant_at, text_of, utf_at, class_of, class_at}
 use Rattle.class_form.specs.declared.pool.Constant.{Constant}
 use Rattle.class_form.specs.declared.pool.Constant.TheVariants.{Class}
-use Rattle.hierarchy.specs.TestClasses.{HasTestTexts}
+use Rattle.hierarchy_tests.specs.TestClasses.{HasTestTexts}
 use Rattle.large_folders.specs.Pools.{pool_of}
 
 kept : (xs ys : List Constant) (k : ℕ) (c : Constant) → slice_get xs k ≡ Some c → slice_get (xs ++ ys) k ≡ Some c

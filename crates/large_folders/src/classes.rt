@@ -1,6 +1,6 @@
 // Class files that are made here.
 ghost use Rattle.std.specs.Prelude.{◌≡◌, ◌≤◌, ◌++◌, ◌∷◌, [], length, All, IfOk, OnOk};
-ghost use Rattle.hierarchy.specs.TestClasses.{HasTestTexts, IsTestClass};
+ghost use Rattle.hierarchy_tests.specs.TestClasses.{HasTestTexts, IsTestClass};
 ghost use Rattle.large_folders.specs.Pools.{pool_of};
 
 use class_form::class_file::{ClassFile, Member};

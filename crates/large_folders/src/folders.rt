@@ -1,6 +1,6 @@
 // Large folders of classes.
 ghost use Rattle.std.specs.Prelude.{◌≡◌, ◌≤◌, ◌+◌, ◌^◌, length, All, IfOk, OnOk};
-ghost use Rattle.hierarchy.specs.TestClasses.{IsTestClass};
+ghost use Rattle.hierarchy_tests.specs.TestClasses.{IsTestClass};
 
 use crate::classes::{ABSTRACT, MISSING, PUBLIC, implementing, plain};
 use class_form::class_file::ClassFile;

@@ -14,8 +14,6 @@ mod rows;
 mod sets;
 mod solved;
 mod sources;
-#[cfg(test)]
-mod tests;
 mod touches;
 
 pub use finding::mod_ref;

@@ -11,6 +11,7 @@ use Rattle.slicer_ids.specs.declared.ids.CallId.{CallId}
 use Rattle.slicer_ids.specs.declared.ids.MethodId.{MethodId}
 use Rattle.slicer_ids.specs.Sets.{IsOrderedListOf}
 use Rattle.slicer_ids.proofs.GrowingOrder.{reworded, without}
+use Rattle.dep_form.specs.declared.rules.Constraint.{Constraint}
 use Rattle.dep_form.specs.declared.system.System.{System}
 use Rattle.dep_form.specs.PointsTo.{Has, Cell as Holds, Calls, OutsideAt, Reached}
 use Rattle.dep_form.specs.Constraints.{IsRoot, SystemFact, SystemHolds}
@@ -21,7 +22,7 @@ use Rattle.points_to.specs.declared.place.Place.TheVariants.{Receivers, Static, 
 use Rattle.points_to.specs.declared.places.Places.{Places}
 use Rattle.points_to.specs.Bits.{IsMember, row_of}
 use Rattle.points_to.specs.Items.{Item, At, Under, under, Each, each, Nothing, Below, IfSome, Or, OneOf, Where, Those, AllOf, IsClosed, Adds, adds, Flows, flows, Filters, filters}
-use Rattle.points_to.specs.Rules.{Follows, IfOutside, InForce}
+use Rattle.points_to.specs.Rules.{CallDoes, Constrains, Follows, IfOutside, InForce, call}
 use Rattle.points_to.specs.Meaning.{MeansTrue, coded}
 use Rattle.points_to.specs.States.{AreSorted, row_in, row_at, Knows, IsQuiet, IsShape, IsSound, HasSome, IsGone, Moves, Pours, Opens}
 use Rattle.points_to.proofs.Closure.{followed}
@@ -336,6 +337,13 @@ Moves-those_none s st P R none = Moves-none s st (Those P R) (λ q ps f r all. a
 -- after a round in which nothing changed
 pub still_sound : (s : System) (old new : Found) → IsSound s old → Moves s old new (Follows s) → IsSound s new
 still_sound s old new t m = m.sound (true_closed s) t
+
+-- .. after one constraint, after all calls
+pub sound_by_one : (s : System) (old new : Found) (c : Constraint) → Contains s.constraints c → Moves s old new (Constrains s c) → IsSound s old → IsSound s new
+sound_by_one s old new c has m t = m.sound (λ ps f r all. true_closed s ps f (inl (c, has, r)) all) t
+
+pub sound_by_calls : (s : System) (old new : Found) → Moves s old new (Below (λ c. IfSome (CallDoes s (call c)) (slice_get s.calls c)) (length s.calls)) → IsSound s old → IsSound s new
+sound_by_calls s old new m t = m.sound (λ ps f r all. true_closed s ps f (inr r) all) t
 
 means_coded : (s : System) (f : SystemFact) → MeansTrue s (coded f) → SystemHolds s f
 means_coded s (Reached m) h = h

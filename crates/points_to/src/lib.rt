@@ -12,6 +12,7 @@ mod groups;
 mod index;
 mod look_ups;
 mod marks;
+mod order;
 mod outside;
 mod place;
 mod places;
@@ -22,7 +23,5 @@ mod rows;
 mod selection;
 mod solving;
 mod steps;
-#[cfg(test)]
-mod tests;
 
 pub use solving::solve;

@@ -11,6 +11,7 @@ use crate::edges::join_all;
 use crate::found::Found;
 use crate::index::Index;
 use crate::marks::Marks;
+use crate::order::order;
 use crate::outside::outside_call;
 use crate::places::Places;
 use dep_form::call_site::CallSite;
@@ -104,6 +105,60 @@ fn try_all(alloc: Global, system: &System, index: &Index, found: &mut Found) -> 
     Ok(())
 }
 
+fn constrain_at(
+    alloc: Global,
+    system: &System,
+    index: &Index,
+    found: &mut Found,
+    number: usize,
+) -> Result<(), NoMemory>
+    requires shape { IsShape found.old }
+    requires index { IsIndexOf system.now index.now }
+    ensures shape { OnOk result (IsShape found.new) }
+    ensures sound { OnOk result (IsSound system.now found.old → IsSound system.now found.new) }
+{
+    match system.constraints.items().get(number) {
+        None => Ok(()),
+        Some(constraint) => constrain(alloc, system, index, found, *constraint),
+    }
+}
+
+// Tries the constraints with these numbers.
+fn constrain_in_order(
+    alloc: Global,
+    system: &System,
+    index: &Index,
+    found: &mut Found,
+    order: &[usize],
+) -> Result<(), NoMemory>
+    requires shape { IsShape found.old }
+    requires index { IsIndexOf system.now index.now }
+    ensures shape { OnOk result (IsShape found.new) }
+    ensures sound { OnOk result (IsSound system.now found.old → IsSound system.now found.new) }
+{
+    for number in order {
+        constrain_at(alloc, system, index, found, *number)?;
+    }
+    Ok(())
+}
+
+// Tries the constraints with these numbers, and what calls do.
+fn try_in_order(
+    alloc: Global,
+    system: &System,
+    index: &Index,
+    found: &mut Found,
+    order: &[usize],
+) -> Result<(), NoMemory>
+    requires shape { IsShape found.old }
+    requires index { IsIndexOf system.now index.now }
+    ensures shape { OnOk result (IsShape found.new) }
+    ensures sound { OnOk result (IsSound system.now found.old → IsSound system.now found.new) }
+{
+    constrain_in_order(alloc, system, index, found, order)?;
+    call_each(alloc, system, found)
+}
+
 // Begins a round.
 fn begin(alloc: Global, found: &mut Found, full: bool) -> Result<(), NoMemory>
     requires { IsShape found.old }
@@ -117,7 +172,13 @@ fn begin(alloc: Global, found: &mut Found, full: bool) -> Result<(), NoMemory>
 }
 
 // Tries the rules where something changed lately, until nothing changes.
-fn hurry(alloc: Global, system: &System, index: &Index, found: &mut Found) -> Result<(), NoMemory>
+fn hurry(
+    alloc: Global,
+    system: &System,
+    index: &Index,
+    found: &mut Found,
+    order: &[usize],
+) -> Result<(), NoMemory>
     requires shape { IsShape found.old }
     requires sound { IsSound system.now found.old }
     requires index { IsIndexOf system.now index.now }
@@ -126,7 +187,7 @@ fn hurry(alloc: Global, system: &System, index: &Index, found: &mut Found) -> Re
 {
     for _ in 0..u64::MAX {
         begin(alloc, found, false)?;
-        try_all(alloc, system, index, found)?;
+        try_in_order(alloc, system, index, found, order)?;
         if !found.changed {
             break;
         }
@@ -161,9 +222,10 @@ pub fn find_all(alloc: Global, system: &System, index: &Index) -> Result<Found, 
     ensures shape { IfOk result (λ found. IsShape found) }
     ensures exact { IfOk result (λ found. IsExact system.now found) }
 {
+    let order = order(alloc, system)?;
     let mut found = empty(alloc);
     for _ in 0..u64::MAX {
-        hurry(alloc, system, index, &mut found)?;
+        hurry(alloc, system, index, &mut found, order.as_slice())?;
         begin(alloc, &mut found, true)?;
         try_all(alloc, system, index, &mut found)?;
         if found.full && !found.changed {

@@ -279,12 +279,13 @@ first_replied f script r left st written e told fresh = record {
   spells = appended_none written;
 }
 
-module _ {K : Type 0} (label : K → List ℕ) (faults : K → ℕ) (steady : K → Bool) where
-  pub sink_itself : (a : K) → IsSinkLater label faults steady a a
-  sink_itself a = record { label = refl; count = omega arith; steady = refl; still = λ s. refl }
+module _ {K : Type 0} (written : K → Option (List ℕ)) (label : K → List ℕ) (faults : K → ℕ) (steady : K → Bool) where
+  pub sink_itself : (a : K) → IsSinkLater written label faults steady a a
+  sink_itself a = record { more = ([], appended_none (written a)); label = refl; count = omega arith; steady = refl; still = λ s. refl }
 
-  pub sink_later : (a b c : K) → IsSinkLater label faults steady a b → IsSinkLater label faults steady b c → IsSinkLater label faults steady a c
+  pub sink_later : (a b c : K) → IsSinkLater written label faults steady a b → IsSinkLater written label faults steady b c → IsSinkLater written label faults steady a c
   sink_later a b c p q = record {
+    more = (p.more.0 ++ q.more.0, after_others (written a) (written b) (written c) p.more.0 q.more.0 p.more.1 q.more.1);
     label = q.label ∙ p.label;
     count = omega (arith, p.count, q.count);
     steady = q.steady ∙ p.steady;

@@ -29,8 +29,9 @@ pub record IsFresh {S K : Type 0} (sh : Shared) (d : Desk S K) : Type 0 where
   pub widened : d.session.widened ≡ None
   pub reader : (script : List ℕ) → IsBetween script [] d.reader (Some script)
 
--- what no call on a sink changes, and that its count of faults never falls
-pub record IsSinkLater {K : Type 0} (label_of : K → List ℕ) (faults_of : K → ℕ) (steadiness : K → Bool) (old new : K) : Type 0 where
+-- what no call on a sink changes, that its count of faults never falls, and that bytes are only put behind those that were written
+pub record IsSinkLater {K : Type 0} (written_of : K → Option (List ℕ)) (label_of : K → List ℕ) (faults_of : K → ℕ) (steadiness : K → Bool) (old new : K) : Type 0 where
+  pub more : (piece : List ℕ) × (written_of new ≡ appended piece (written_of old))
   pub label : label_of new ≡ label_of old
   pub count : faults_of old ≤ faults_of new
   pub steady : steadiness new ≡ steadiness old

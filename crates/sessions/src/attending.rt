@@ -59,7 +59,7 @@ fn take_line<'s, K: Sink, L: Ledger>(
     ensures knows { Knows (view_of session.old.seat) (view_of session.new.seat) }
     ensures needed { result ≡ None → (l : List ℕ) → line.now ≡ take kept_bytes l → HasForLine shared.now.facts l session.old.state session.new.pass (view_of session.new.seat) }
     ensures told { MatchOption result (IsTaken shared.now.facts line.now session.old.state session.new.state (K.written sink.old) (K.written sink.new) count.old count.new) (IsStopped shared.now.facts line.now session.old.state (K.written sink.old) (K.written sink.new) (K.faults sink.old) (K.faults sink.new) count.old) }
-    ensures sink { IsSinkLater K.label K.faults K.steady sink.old sink.new }
+    ensures sink { IsSinkLater K.written K.label K.faults K.steady sink.old sink.new }
     ensures count { count.new ≤ count.old + 1 }
 {
     match answer_line(alloc, shared, session, line, sink, steps) {
@@ -89,7 +89,7 @@ fn take_last<'s, K: Sink, L: Ledger>(
     ensures knows { Knows (view_of session.old.seat) (view_of session.new.seat) }
     ensures needed { (m : ℕ) → result ≡ Outcome.Done m → (l : List ℕ) → line.now ≡ take kept_bytes l → HasForLine shared.now.facts l session.old.state session.new.pass (view_of session.new.seat) }
     ensures told { IsLastTaken shared.now.facts line.now session.old.state (K.written sink.old) (K.written sink.new) (K.faults sink.old) (K.faults sink.new) count result }
-    ensures sink { IsSinkLater K.label K.faults K.steady sink.old sink.new }
+    ensures sink { IsSinkLater K.written K.label K.faults K.steady sink.old sink.new }
 {
     let mut count = count;
     match take_line(alloc, shared, session, line, sink, steps, &mut count) {
@@ -102,7 +102,7 @@ fn take_last<'s, K: Sink, L: Ledger>(
 fn too_long<K: Sink>(shared: &Shared, sink: &mut K, count: u64) -> Outcome
     requires count { count < 2 ^ 63 }
     ensures told { IsTooLongTold shared.now.facts (K.written sink.old) (K.written sink.new) (K.faults sink.old) (K.faults sink.new) count result }
-    ensures sink { IsSinkLater K.label K.faults K.steady sink.old sink.new }
+    ensures sink { IsSinkLater K.written K.label K.faults K.steady sink.old sink.new }
 {
     match write_error(&shared.facts, CommandError::ScriptTooLong, sink) {
         Ok(_) => Outcome::Done(count + 1),
@@ -131,7 +131,7 @@ fn turn<'s, S: Source, K: Sink, L: Ledger>(
     ensures cause { IfSome result (λ o. HasCause o (S.faults source.old) (S.faults source.new) (K.faults sink.old) (K.faults sink.new)) }
     ensures on { result ≡ None → reader.old.bytes < reader.new.bytes }
     ensures count { result ≡ None → count.new ≤ reader.new.bytes }
-    ensures sink { IsSinkLater K.label K.faults K.steady sink.old sink.new }
+    ensures sink { IsSinkLater K.written K.label K.faults K.steady sink.old sink.new }
     ensures source { S.faults source.old ≤ S.faults source.new }
     ensures steady { S.steady source.new ≡ S.steady source.old }
     ensures still { S.steady source.old ≡ true → S.faults source.new ≡ S.faults source.old }
@@ -162,7 +162,7 @@ fn attend_counted<'s, S: Source, K: Sink, T: Ledger>(
     ensures read { (script : List ℕ) → S.left desk.old.source ≡ Some script → HasReadAll script (S.left desk.new.source) result }
     ensures served { (script : List ℕ) → S.left desk.old.source ≡ Some script → HasServed shared.now.facts script desk.new.session.pass (view_of desk.new.session.seat) result }
     ensures cause { HasCause result (S.faults desk.old.source) (S.faults desk.new.source) (K.faults desk.old.sink) (K.faults desk.new.sink) }
-    ensures sink { IsSinkLater K.label K.faults K.steady desk.old.sink desk.new.sink }
+    ensures sink { IsSinkLater K.written K.label K.faults K.steady desk.old.sink desk.new.sink }
     ensures source { S.faults desk.old.source ≤ S.faults desk.new.source }
     ensures steady { S.steady desk.new.source ≡ S.steady desk.old.source }
     ensures still { S.steady desk.old.source ≡ true → S.faults desk.new.source ≡ S.faults desk.old.source }
@@ -206,7 +206,7 @@ pub fn attend<'s, S: Source, K: Sink>(
     ensures served { (script : List ℕ) → S.left desk.old.source ≡ Some script → HasServed shared.now.facts script desk.new.session.pass (view_of desk.new.session.seat) result }
     ensures cause { HasCause result (S.faults desk.old.source) (S.faults desk.new.source) (K.faults desk.old.sink) (K.faults desk.new.sink) }
     ensures sure { S.steady desk.old.source ≡ true → K.steady desk.old.sink ≡ true → IsNoFault result }
-    ensures sink { IsSinkLater K.label K.faults K.steady desk.old.sink desk.new.sink }
+    ensures sink { IsSinkLater K.written K.label K.faults K.steady desk.old.sink desk.new.sink }
     ensures source { S.faults desk.old.source ≤ S.faults desk.new.source }
     ensures steady { S.steady desk.new.source ≡ S.steady desk.old.source }
     ensures still { S.steady desk.old.source ≡ true → S.faults desk.new.source ≡ S.faults desk.old.source }

@@ -46,7 +46,7 @@ fn write_whole<K: Sink>(f: &Facts, reply: &Reply<'_>, sink: &mut K) -> Result<bo
     requires { IsOfFacts f.now (answer_of reply.now) }
     ensures told { IfOk result (λ b. (b ≡ true) × (K.written sink.new ≡ appended (text f.now (answer_of reply.now)) (K.written sink.old))) }
     ensures part { OnErr result ((k : ℕ) × (k < length (text f.now (answer_of reply.now))) × (K.written sink.new ≡ appended (take k (text f.now (answer_of reply.now))) (K.written sink.old))) }
-    ensures sink { IsSinkLater K.label K.faults K.steady sink.old sink.new }
+    ensures sink { IsSinkLater K.written K.label K.faults K.steady sink.old sink.new }
     ensures fault { IfErr result (λ e. e ≡ SinkError.Fault → Rose (K.faults sink.old) (K.faults sink.new)) }
 {
     match write_reply(f, reply, sink) {
@@ -59,7 +59,7 @@ fn write_whole<K: Sink>(f: &Facts, reply: &Reply<'_>, sink: &mut K) -> Result<bo
 pub fn write_error<K: Sink>(f: &Facts, error: CommandError, sink: &mut K) -> Result<bool, SinkError>
     ensures told { IfOk result (λ b. (b ≡ true) × (K.written sink.new ≡ appended (text f.now (Error error)) (K.written sink.old))) }
     ensures part { OnErr result ((k : ℕ) × (k < length (text f.now (Error error))) × (K.written sink.new ≡ appended (take k (text f.now (Error error))) (K.written sink.old))) }
-    ensures sink { IsSinkLater K.label K.faults K.steady sink.old sink.new }
+    ensures sink { IsSinkLater K.written K.label K.faults K.steady sink.old sink.new }
     ensures fault { IfErr result (λ e. e ≡ SinkError.Fault → Rose (K.faults sink.old) (K.faults sink.new)) }
 {
     let reply = Reply::Error(error);
@@ -71,7 +71,7 @@ fn refuse<K: Sink>(f: &Facts, error: LineError, sink: &mut K) -> Result<bool, Si
     ensures told { IfOk result (λ b. (b ≡ true) × (e : CommandError) × IsRefusal error e × (K.written sink.new ≡ appended (text f.now (Error e)) (K.written sink.old))) }
     ensures part { OnErr result ((e : CommandError) → IsRefusal error e → IsPartShown f.now (Error e) (K.written sink.old) (K.written sink.new)) }
     ensures untold { error ≡ LineError.NoMemory → K.written sink.new ≡ K.written sink.old }
-    ensures sink { IsSinkLater K.label K.faults K.steady sink.old sink.new }
+    ensures sink { IsSinkLater K.written K.label K.faults K.steady sink.old sink.new }
     ensures fault { IfErr result (λ e. e ≡ SinkError.Fault → Rose (K.faults sink.old) (K.faults sink.new)) }
 {
     match refusal_of(error) {
@@ -85,7 +85,7 @@ fn say<K: Sink>(f: &Facts, session: &Session<'_>, sink: &mut K) -> Result<bool, 
     requires { IsOfFacts f.now (answer_in session.now) }
     ensures told { IfOk result (λ b. (b ≡ true) × (K.written sink.new ≡ appended (text f.now (answer_in session.now)) (K.written sink.old))) }
     ensures part { OnErr result ((k : ℕ) × (k < length (text f.now (answer_in session.now))) × (K.written sink.new ≡ appended (take k (text f.now (answer_in session.now))) (K.written sink.old))) }
-    ensures sink { IsSinkLater K.label K.faults K.steady sink.old sink.new }
+    ensures sink { IsSinkLater K.written K.label K.faults K.steady sink.old sink.new }
     ensures fault { IfErr result (λ e. e ≡ SinkError.Fault → Rose (K.faults sink.old) (K.faults sink.new)) }
 {
     let reply = session.reply();
@@ -110,7 +110,7 @@ fn show<'s, K: Sink, L: Ledger>(
     ensures told { IfOk result (λ b. (b ≡ true) × IsShown shared.now.facts session.old.state command.now session.new.state (K.written sink.old) (K.written sink.new)) }
     ensures part { OnErr result ((a : Answer) (after : State) → Answers shared.now.facts session.old.state command.now a after → IsPartShown shared.now.facts a (K.written sink.old) (K.written sink.new)) }
     ensures needed { OnOk result (HasForReply shared.now.facts session.old.state command.now session.new.pass (view_of session.new.seat)) }
-    ensures sink { IsSinkLater K.label K.faults K.steady sink.old sink.new }
+    ensures sink { IsSinkLater K.written K.label K.faults K.steady sink.old sink.new }
     ensures fault { IfErr result (λ e. e ≡ SinkError.Fault → Rose (K.faults sink.old) (K.faults sink.new)) }
 {
     match session.answer(alloc, shared, command, steps) {
@@ -137,7 +137,7 @@ fn reply_to<'s, K: Sink, L: Ledger>(
     ensures blank { command.now ≡ Blank → (result ≡ Ok false) × (session.new.state ≡ session.old.state) × (K.written sink.new ≡ K.written sink.old) }
     ensures told { command.now ≢ Blank → IfOk result (λ b. (b ≡ true) × IsShown shared.now.facts session.old.state command.now session.new.state (K.written sink.old) (K.written sink.new)) }
     ensures part { OnErr result ((a : Answer) (after : State) → Answers shared.now.facts session.old.state command.now a after → IsPartShown shared.now.facts a (K.written sink.old) (K.written sink.new)) }
-    ensures sink { IsSinkLater K.label K.faults K.steady sink.old sink.new }
+    ensures sink { IsSinkLater K.written K.label K.faults K.steady sink.old sink.new }
     ensures fault { IfErr result (λ e. e ≡ SinkError.Fault → Rose (K.faults sink.old) (K.faults sink.new)) }
 {
     match command {
@@ -163,7 +163,7 @@ pub fn answer_line<'s, K: Sink, L: Ledger>(
     ensures needed { OnOk result ((l : List ℕ) → line.now ≡ take kept_bytes l → HasForLine shared.now.facts l session.old.state session.new.pass (view_of session.new.seat)) }
     ensures told { IfOk result (λ b. (l : List ℕ) → line.now ≡ take kept_bytes l → IsLineTold shared.now.facts l b session.old.state session.new.state (K.written sink.old) (K.written sink.new)) }
     ensures part { OnErr result ((l : List ℕ) → line.now ≡ take kept_bytes l → IsLinePart shared.now.facts l session.old.state (K.written sink.old) (K.written sink.new)) }
-    ensures sink { IsSinkLater K.label K.faults K.steady sink.old sink.new }
+    ensures sink { IsSinkLater K.written K.label K.faults K.steady sink.old sink.new }
     ensures fault { IfErr result (λ e. e ≡ SinkError.Fault → Rose (K.faults sink.old) (K.faults sink.new)) }
 {
     match read_command(alloc, line) {

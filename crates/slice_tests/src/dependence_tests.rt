@@ -1,7 +1,8 @@
 // Slices over exceptions, arrays, static fields, dispatch and outside calls, worked out by hand.
 
+use crate::containers::containers;
 use crate::dependences::{array_copies, dispatch, exceptions, initializers, outside_arrays};
-use crate::tests::walks_to;
+use crate::tests::{agrees_between, agrees_everywhere, walks_to};
 use slicer_ids::ids::Mode;
 use std::test::Fail;
 
@@ -54,5 +55,77 @@ fn the_elements_of_an_outside_array(rt: HostRuntime) -> Result<(), Fail> {
         1, 2, 3, 4, 5, 6, 7, 8, 10, 12, 13, 14, 16, 17, 19, 20, 21, 22,
     ];
     walks_to(&rt, rt.alloc(), &facts, 14, Mode::Thin, &expected)?;
+    Ok(())
+}
+
+// What the list gives at 37 was put into its state at 31: the text of 17, through 20 and 30, which is made of 0, 7, 9, 13 and 14. The list
+// itself is the receiver at 37, from 21 through 28 and 35, with the index of 36. The list into which the text goes (29) and the array of
+// which 13 is the length (12) stay out. By the root, what is written in the end is there on entry: 37 writes its index into the list's
+// state.
+#[test]
+fn an_element_comes_out_of_a_container(rt: HostRuntime) -> Result<(), Fail> {
+    let facts = containers(rt.alloc())?.expect(&rt, "facts");
+    let expected = [
+        1, 2, 3, 4, 6, 10, 11, 12, 13, 14, 16, 17, 18, 19, 20, 22, 23, 24, 25, 29, 31, 32, 34, 37,
+        38, 39, 40, 41, 42, 43, 44, 51, 52, 53, 54, 57, 58, 59, 60, 62, 63, 64, 65,
+    ];
+    walks_to(&rt, rt.alloc(), &facts, 44, Mode::Thin, &expected)?;
+    Ok(())
+}
+
+#[test]
+fn every_slice_with_exceptions(rt: HostRuntime) -> Result<(), Fail> {
+    let facts = exceptions(rt.alloc())?;
+    agrees_everywhere(&rt, rt.alloc(), facts)?;
+    Ok(())
+}
+
+// The 36 seeds of the array copy, nine a test, since saturation takes the square of the edges and the square of the pairs.
+#[test]
+fn every_slice_with_an_array_copy_below_9(rt: HostRuntime) -> Result<(), Fail> {
+    let facts = array_copies(rt.alloc())?;
+    agrees_between(&rt, rt.alloc(), facts, 0, 9)?;
+    Ok(())
+}
+
+#[test]
+fn every_slice_with_an_array_copy_from_9(rt: HostRuntime) -> Result<(), Fail> {
+    let facts = array_copies(rt.alloc())?;
+    agrees_between(&rt, rt.alloc(), facts, 9, 18)?;
+    Ok(())
+}
+
+#[test]
+fn every_slice_with_an_array_copy_from_18(rt: HostRuntime) -> Result<(), Fail> {
+    let facts = array_copies(rt.alloc())?;
+    agrees_between(&rt, rt.alloc(), facts, 18, 27)?;
+    Ok(())
+}
+
+#[test]
+fn every_slice_with_an_array_copy_from_27(rt: HostRuntime) -> Result<(), Fail> {
+    let facts = array_copies(rt.alloc())?;
+    agrees_between(&rt, rt.alloc(), facts, 27, 36)?;
+    Ok(())
+}
+
+#[test]
+fn every_slice_with_an_initializer(rt: HostRuntime) -> Result<(), Fail> {
+    let facts = initializers(rt.alloc())?;
+    agrees_everywhere(&rt, rt.alloc(), facts)?;
+    Ok(())
+}
+
+#[test]
+fn every_slice_with_dispatch(rt: HostRuntime) -> Result<(), Fail> {
+    let facts = dispatch(rt.alloc())?;
+    agrees_everywhere(&rt, rt.alloc(), facts)?;
+    Ok(())
+}
+
+#[test]
+fn every_slice_with_an_outside_array(rt: HostRuntime) -> Result<(), Fail> {
+    let facts = outside_arrays(rt.alloc())?;
+    agrees_everywhere(&rt, rt.alloc(), facts)?;
     Ok(())
 }

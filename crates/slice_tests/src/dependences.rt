@@ -4,7 +4,7 @@
 use crate::examples::{access, back, base, call, thin};
 use checked_facts::program::{Heap, SmallProgram};
 use dep_form::facts::Facts;
-use dep_form::node::Node;
+use dep_form::node::{Edge, Node};
 use slicer_ids::ids::{LocId, NoMemory, NodeId};
 use std::alloc::Global;
 
@@ -125,9 +125,8 @@ fn copier_nodes() -> [Node; 31] {
     ]
 }
 
-fn add_copier(program: &mut SmallProgram) -> Result<bool, NoMemory> {
-    let nodes = copier_nodes();
-    let edges = [
+fn copier_edges() -> [Edge; 27] {
+    [
         thin(3, 4),
         thin(4, 5),
         thin(5, 6),
@@ -155,31 +154,36 @@ fn add_copier(program: &mut SmallProgram) -> Result<bool, NoMemory> {
         call(0, 31, 0),
         call(0, 32, 1),
         call(0, 33, 2),
-    ];
+    ]
+}
+
+const COPIER_FLOW: &[(u32, u32)] = &[
+    (0, 1),
+    (1, 2),
+    (2, 3),
+    (3, 4),
+    (4, 5),
+    (5, 6),
+    (6, 7),
+    (7, 8),
+    (8, 9),
+    (9, 10),
+    (10, 11),
+    (11, 12),
+    (12, 13),
+    (13, 14),
+    (14, 15),
+    (15, 16),
+    (16, 17),
+    (17, 18),
+    (18, 19),
+    (19, 20),
+];
+
+fn add_copier(program: &mut SmallProgram) -> Result<bool, NoMemory> {
     let heap = Heap {
         points: 21,
-        flow: &[
-            (0, 1),
-            (1, 2),
-            (2, 3),
-            (3, 4),
-            (4, 5),
-            (5, 6),
-            (6, 7),
-            (7, 8),
-            (8, 9),
-            (9, 10),
-            (10, 11),
-            (11, 12),
-            (12, 13),
-            (13, 14),
-            (14, 15),
-            (15, 16),
-            (16, 17),
-            (17, 18),
-            (18, 19),
-            (19, 20),
-        ],
+        flow: COPIER_FLOW,
         puts: &[
             (6, NodeId(9), LocId(0)),
             (15, NodeId(18), LocId(0)),
@@ -191,6 +195,8 @@ fn add_copier(program: &mut SmallProgram) -> Result<bool, NoMemory> {
             (18, NodeId(26), LocId(1)),
         ],
     };
+    let nodes = copier_nodes();
+    let edges = copier_edges();
     program.add_with_heap(&nodes, &edges, &heap)
 }
 
@@ -364,8 +370,8 @@ pub fn outside_arrays(alloc: Global) -> Result<Option<Facts>, NoMemory> {
     program.facts(&[NodeId(16), NodeId(17)], accesses, Vec::new(alloc))
 }
 
-fn add_splitter(program: &mut SmallProgram) -> Result<bool, NoMemory> {
-    let nodes = [
+fn splitter_nodes() -> [Node; 18] {
+    [
         Node::Formal(0),
         Node::HeapIn(LocId(0)),
         Node::HeapIn(LocId(1)),
@@ -384,7 +390,11 @@ fn add_splitter(program: &mut SmallProgram) -> Result<bool, NoMemory> {
         Node::Own(13),
         Node::HeapOut(LocId(0)),
         Node::HeapOut(LocId(1)),
-    ];
+    ]
+}
+
+fn add_splitter(program: &mut SmallProgram) -> Result<bool, NoMemory> {
+    let nodes = splitter_nodes();
     let edges = [
         thin(3, 6),
         thin(4, 7),

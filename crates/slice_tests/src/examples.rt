@@ -86,6 +86,12 @@ pub fn two_calls(alloc: Global) -> Result<Option<Facts>, NoMemory> {
 /// rec (I)I: iload_0, ifne 6, iconst_5, ireturn, 6: iload_0, iconst_1, isub, invokestatic rec, ireturn. main: iconst_3, rec.
 pub fn recursion(alloc: Global) -> Result<Option<Facts>, NoMemory> {
     let mut program = SmallProgram::new(alloc);
+    add_recursive(&mut program)?;
+    add_first_caller(&mut program)?;
+    whole(alloc, program, &[NodeId(12)], Vec::new(alloc))
+}
+
+fn add_recursive(program: &mut SmallProgram) -> Result<bool, NoMemory> {
     let nodes = [
         Node::Formal(0),
         Node::Own(0),
@@ -116,7 +122,10 @@ pub fn recursion(alloc: Global) -> Result<Option<Facts>, NoMemory> {
         back(0, 12, 10),
         call(1, 15, 0),
     ];
-    program.add(&nodes, &edges)?;
+    program.add(&nodes, &edges)
+}
+
+fn add_first_caller(program: &mut SmallProgram) -> Result<bool, NoMemory> {
     let nodes = [
         Node::Own(0),
         Node::Own(1),
@@ -124,8 +133,15 @@ pub fn recursion(alloc: Global) -> Result<Option<Facts>, NoMemory> {
         Node::Result(1),
     ];
     let edges = [thin(13, 15), back(1, 12, 16)];
-    program.add(&nodes, &edges)?;
-    whole(alloc, program, &[NodeId(12)], Vec::new(alloc))
+    program.add(&nodes, &edges)
+}
+
+/// The statement of a method at a pc.
+pub fn at(method: u32, pc: u16) -> Statement {
+    Statement {
+        method: MethodId(method),
+        pc,
+    }
 }
 
 /// An access whose object is produced at a node.
@@ -136,15 +152,11 @@ pub fn access(
     object: u32,
 ) -> Result<(Statement, Access), NoMemory> {
     let object = vec![in alloc; NodeId(object)]?;
-    let place = Statement {
-        method: MethodId(method),
-        pc,
-    };
     let access = Access {
         object: List::from_vec(object),
         sites: List::from_vec(Vec::new(alloc)),
     };
-    Ok((place, access))
+    Ok((at(method, pc), access))
 }
 
 /// set (LBox;I)V: aload_0, iload_1, putfield v, return. main: new Box, astore_1, aload_1, iconst_5, set, aload_1, getfield v, istore_2.

@@ -142,6 +142,25 @@ pub fn agrees_everywhere(
     Ok(())
 }
 
+/// The same of the seeds of a range, where all of them take the time of more than one test.
+pub fn agrees_between(
+    rt: &impl Abort,
+    alloc: Global,
+    facts: Option<Facts>,
+    first: u32,
+    end: u32,
+) -> Result<(), NoMemory> {
+    let facts = facts.expect(rt, "facts");
+    let edges = edges_of(alloc, &facts)?;
+    let thin = expanded_edges(alloc, &edges, &[])?;
+    let full = full_edges(alloc, &edges)?;
+    for seed in first..end {
+        agrees_at(rt, alloc, &facts, &thin, seed, Mode::Thin)?;
+        agrees_at(rt, alloc, &facts, &full, seed, Mode::Full)?;
+    }
+    Ok(())
+}
+
 #[test]
 fn every_slice_with_two_calls(rt: HostRuntime) -> Result<(), Fail> {
     let facts = two_calls(rt.alloc())?;

@@ -1,109 +1,127 @@
--- A folder of one entry: its lists are one, and so are its bytes.
-use Rattle.std.proofs.Common.{◌≡◌, ◌≤◌, ◌<◌, ℕ, false, List, [], ◌∷◌, length, Contains, get_or, IfSome, Option, Some, None, sym, ap, subst, ◌∙◌, arith}
+-- Files that agree in a folder accept it with the same programs.
+use Rattle.std.proofs.Common.{◌≡◌, ℕ, suc, List, [], ◌∷◌, ◌++◌, ◌+◌, length, get_or, true, false, All, Option, refl, sym, ap, subst, ◌∙◌, inl, inr, append_assoc}
+use Rattle.std.proofs.lemmas.List.Elements.{All-nil, All-head, All-tail, All-push}
 use Rattle.std.specs.FinMap as map
-use Rattle.slicer_ids.specs.Sets.{IsListOf}
+use Rattle.edge_io.specs.Files.{Files, HasFile, inside, IsEntryOf, IsFolder}
 use Rattle.edge_io.specs.declared.host.Item.{Item}
-use Rattle.edge_io.specs.declared.host.Entry.{Entry}
-use Rattle.edge_io.specs.declared.host.Entry.TheVariants.{Folder, File}
-use Rattle.edge_io.specs.Files.{Files, HasFile, IsFolder, IsFile, IsEntryOf, Lists, inside, is_folder}
-use Rattle.slicer_ids.specs.declared.limits.LimitKind.TheVariants.{FileBytes}
-use Rattle.refusal_lines.specs.Refusals.{limit_refusal}
-use Rattle.program_reader.specs.Readings.{Refuses, no_class, bad_code}
-use Rattle.slicer_service.specs.Texts.{line, not_built_line}
-use Rattle.slicer_service.specs.Folders.{IsClassFileName, HasOneFile, HasBytes, Refused, no_class_file, too_long, IsRefusalLine, on_file, on_method}
+use Rattle.folder_form.specs.Walks.{IsNameIn, Walked, Found, TooMany, Walks, walks, WalksEach}
+use Rattle.folder_form.specs.Walks as walk
+use Rattle.folder_form.specs.Reading.{Read, Contents, Reads}
+use Rattle.folder_form.specs.Reading as reading
+use Rattle.folder_reader.specs.Below.{IsBelow, IsAtOrBelow}
+use Rattle.program_form.specs.Programs.{Program}
+use Rattle.acceptance.specs.Refusals.{Accepts}
+use Rattle.slicer_service.specs.Alike.{AgreeIn}
 
--- the one file of a folder, as an entry
-abbrev pub file_item : List ℕ → Item
-file_item name = record { name = name; folder = false }
+-- what stands below a folder of the folder stands below the folder
+deeper : (folder name below : List ℕ) → inside (inside folder name) below ≡ inside folder (name ++ 47 ∷ below)
+deeper folder name below = append_assoc folder (47 ∷ name) (47 ∷ below)
 
--- the one member of a list
-pub in_one : {A : Type 0} (x y : A) → Contains (x ∷ []) y → y ≡ x
-in_one x y (k, lt, e) =
-    let z : k ≡ 0 = omega arith in
-    sym e ∙ ap (λ (n : ℕ). get_or (x ∷ []) n y) z
+found_are : (a b : List (List ℕ)) → Found a ≡ Found b → a ≡ b
+found_are a b e = cc e
 
--- a set of one member has one list
-pub one_list : {A : Type 0} (P : A → Type 0) (x : A) (xs : List A) → IsListOf (x ∷ []) P → IsListOf xs P → xs ≡ x ∷ []
-one_list P x [] one all = let h = all.whole x (one.each 0 x (omega arith)) in absurd (omega (arith, h.1))
-one_list P x (y ∷ []) one all = ap (λ z. z ∷ []) (in_one x y (one.whole y (all.each 0 y (omega arith))))
-one_list P x (y ∷ z ∷ ws) one all =
-    let p = in_one x y (one.whole y (all.each 0 y (omega arith))) in
-    let q = in_one x z (one.whole z (all.each 1 y (omega arith))) in
-    absurd (all.once 0 1 y (omega arith) (omega arith) (p ∙ sym q))
+-- what stands in a folder at or below another one is below that
+further : (root folder name : List ℕ) → IsAtOrBelow root folder → IsBelow root (inside folder name)
+further root folder name (inl e) = (name, ap (λ (path : List ℕ). inside path name) e)
+further root folder name (inr h) = (h.0 ++ 47 ∷ name, ap (λ (path : List ℕ). inside path name) h.1 ∙ deeper root h.0 name)
 
-head_is : {A : Type 0} (x y : A) → ◌≡◌ {A = List A} (x ∷ []) (y ∷ []) → x ≡ y
-head_is x y e = cc
+module _ (m n : Files) where
+  -- the same stands at each path below
+  abbrev AreSame : List ℕ → Type 0
+  AreSame folder = (name : List ℕ) → map.get m (inside folder name) ≡ map.get n (inside folder name)
 
-pub entry_is : (a b : List ℕ) → ◌≡◌ {A = Option Entry} (Some (File a)) (Some (File b)) → a ≡ b
-entry_is a b e = cc
+  same_deeper : (folder name : List ℕ) → AreSame folder → AreSame (inside folder name)
+  same_deeper folder name same below =
+      ap (λ (path : List ℕ). map.get m path) (deeper folder name below) ∙ same (name ++ 47 ∷ below) ∙ sym (ap (λ (path : List ℕ). map.get n path) (deeper folder name below))
 
--- the folder whose entries are this list has one file
-pub one_file : (m : Files) (folder name : List ℕ) (items : List Item) → IsFolder m folder × Lists m folder items → items ≡ file_item name ∷ [] → IsClassFileName name → HasOneFile m folder name
-one_file m folder name items told one is = record { there = told.0; only = subst (λ (xs : List Item). Lists m folder xs) one told.1; class_file = is }
+  entry : (folder : List ℕ) (i : Item) → AreSame folder → IsEntryOf m folder i → IsEntryOf n folder i
+  entry folder i same h = record { there = (h.there.0, sym (same i.name) ∙ h.there.1, h.there.2); direct = h.direct }
 
--- it has one name
-pub one_name : {m : Files} {folder name other : List ℕ} → HasOneFile m folder name → HasOneFile m folder other → name ≡ other
-one_name {m} {folder} {name} {other} f g =
-    ap (λ (i : Item). i.name) (head_is (file_item name) (file_item other) (sym (one_list (IsEntryOf m folder) (file_item name) (file_item other ∷ []) f.only g.only)))
+  entry_back : (folder : List ℕ) (i : Item) → AreSame folder → IsEntryOf n folder i → IsEntryOf m folder i
+  entry_back folder i same h = record { there = (h.there.0, same i.name ∙ h.there.1, h.there.2); direct = h.direct }
 
--- .. and its file has one content
-pub same_bytes : {m : Files} {folder name other bytes content : List ℕ} → HasBytes m folder name bytes → HasBytes m folder other content → (name ≡ other) × (bytes ≡ content)
-same_bytes {m} {folder} {name} {other} {bytes} {content} f g =
-    let e = one_name f.one g.one in
-    (e, entry_is bytes content (sym f.file ∙ (ap (λ (n : List ℕ). map.get m (inside folder n)) e ∙ g.file)))
+  name_in : (folder name : List ℕ) → AreSame folder → IsNameIn m folder name → IsNameIn n folder name
+  name_in folder name same (inl h) = inl (entry folder (record { name = name; folder = true }) same h)
+  name_in folder name same (inr h) = inr (entry folder (record { name = name; folder = false }) same h)
 
--- a folder is refused whose entries are not one class file
-pub no_class_file_told : (files : Option Files) (folder : List ℕ) (items : List Item)
-    → ((name : List ℕ) → items ≡ file_item name ∷ [] → IsClassFileName name → ⊥)
-    → IfSome files (λ m. IsFolder m folder × Lists m folder items) → IfSome files (λ m. Refused m folder not_built_line)
-no_class_file_told None folder items missed told = tt
-no_class_file_told (Some m) folder items missed told =
-    no_class_file told.0 (λ name f. missed name (one_list (IsEntryOf m folder) (file_item name) items f.only told.1) f.class_file)
+  name_back : (folder name : List ℕ) → AreSame folder → IsNameIn n folder name → IsNameIn m folder name
+  name_back folder name same (inl h) = inl (entry_back folder (record { name = name; folder = true }) same h)
+  name_back folder name same (inr h) = inr (entry_back folder (record { name = name; folder = false }) same h)
 
--- the file that was read
-with_bytes : (m : Files) (folder name path bytes : List ℕ) (items : List Item) → path ≡ inside folder name → items ≡ file_item name ∷ [] → IsClassFileName name
-    → IsFolder m folder × Lists m folder items → HasFile m path bytes → HasBytes m folder name bytes
-with_bytes m folder name path bytes items at one is told file = record { one = one_file m folder name items told one is; file = subst (λ (q : List ℕ). HasFile m q bytes) at file }
+  mutual
+    walked : (depth : ℕ) (folder : List ℕ) (before : List (List ℕ)) (end : Walked) → AreSame folder → Walks m depth folder before end → Walks n depth folder before end
+    walked depth folder before end same (walks {names} h each) =
+        walks (record { each = λ k d lt. name_in folder (get_or names k d) same (h.each k d lt); order = h.order; whole = λ name is. h.whole name (name_back folder name same is) })
+        (walked_each depth folder names before end same each)
 
--- .. and one whose one file is too long
-pub too_long_told : (files later : Option Files) (folder name path : List ℕ) (items : List Item) → later ≡ files → path ≡ inside folder name → items ≡ file_item name ∷ [] → IsClassFileName name
-    → IfSome files (λ m. IsFolder m folder × Lists m folder items)
-    → IfSome later (λ m. (bytes : List ℕ) × HasFile m path bytes × (16777216 < length bytes))
-    → IfSome files (λ m. Refused m folder (line (limit_refusal FileBytes 16777217)))
-too_long_told None later folder name path items same at one is told file = tt
-too_long_told (Some m) later folder name path items same at one is told file =
-    let here = subst (λ (o : Option Files). IfSome o (λ (m : Files). (bytes : List ℕ) × HasFile m path bytes × (16777216 < length bytes))) same file in
-    too_long name here.0 (with_bytes m folder name path here.0 items at one is told here.1) here.2
+    walked_each : (depth : ℕ) (folder : List ℕ) (names before : List (List ℕ)) (end : Walked) → AreSame folder → WalksEach m depth folder names before end → WalksEach n depth folder names before end
+    walked_each depth folder _ before _ same walk.none = walk.none
+    walked_each depth folder _ before end same (walk.class_file {name} {names} f c few rest) =
+        walk.class_file (entry folder (record { name = name; folder = false }) same f) c few (walked_each depth folder names (before ++ inside folder name ∷ []) end same rest)
+    walked_each depth folder _ before _ same (walk.too_many {name} f c many) = walk.too_many (entry folder (record { name = name; folder = false }) same f) c many
+    walked_each depth folder _ before end same (walk.other_file {name} {names} f c rest) =
+        walk.other_file (entry folder (record { name = name; folder = false }) same f) c (walked_each depth folder names before end same rest)
+    walked_each depth folder _ before end same (walk.folder_below {name} {names} {more} f low inner rest) =
+        walk.folder_below (entry folder (record { name = name; folder = true }) same f) low
+        (walked (suc depth) (inside folder name) before (Found more) (same_deeper folder name same) inner) (walked_each depth folder names more end same rest)
+    walked_each depth folder _ before _ same (walk.ends_below {name} {kind} {count} f low inner) =
+        walk.ends_below (entry folder (record { name = name; folder = true }) same f) low (walked (suc depth) (inside folder name) before (TooMany kind count) (same_deeper folder name same) inner)
+    walked_each depth folder _ before _ same (walk.too_deep {name} f deep) = walk.too_deep (entry folder (record { name = name; folder = true }) same f) deep
 
--- what is known of a file of the folder, of its path
-module _ (files later : Option Files) (folder name path bytes : List ℕ) (items : List Item) (same : later ≡ files) (at : path ≡ inside folder name) (one : items ≡ file_item name ∷ [])
-    (is : IsClassFileName name) where
-  pub told_bytes : (P : Files → Type 0) → ((m : Files) → HasBytes m folder name bytes → length bytes ≤ 16777216 → P m) → IfSome files (λ m. IsFolder m folder × Lists m folder items)
-      → IfSome later (λ m. HasFile m path bytes) → length bytes ≤ 16777216 → IfSome files P
-  told_bytes P f told file size = by_files files told (subst (λ (o : Option Files). IfSome o (λ (m : Files). HasFile m path bytes)) same file)
-    where
-      by_files : (o : Option Files) → IfSome o (λ m. IsFolder m folder × Lists m folder items) → IfSome o (λ m. HasFile m path bytes) → IfSome o P
-      by_files None there here = tt
-      by_files (Some m) there here = f m (with_bytes m folder name path bytes items at one is there here) size
+  file : (folder path bytes : List ℕ) → AreSame folder → IsBelow folder path → HasFile m path bytes → HasFile n path bytes
+  file folder path bytes same below has =
+      let at : map.get m path ≡ map.get n path =
+      ap (λ (p : List ℕ). map.get m p) below.1 ∙ same below.0 ∙ sym (ap (λ (p : List ℕ). map.get n p) below.1) in
+      sym at ∙ has
 
--- what is no folder is a file
-file_there : (m : Files) (path : List ℕ) (e : Entry) → map.get m path ≡ Some e → is_folder e ≡ false → IsFile m path
-file_there m path Folder here plain = absurd cc
-file_there m path (File bytes) here plain = (bytes, here)
+  -- the files have the same bytes, where they are below the folder
+  read : (folder : List ℕ) (total : ℕ) (paths : List (List ℕ)) (end : Read) → AreSame folder → All (IsBelow folder) paths → Reads m total paths end → Reads n total paths end
+  read folder total _ _ same below reading.none = reading.none
+  read folder total _ _ same below (reading.file {path} {bytes} {paths} {rest} has short few more) =
+      reading.file (file folder path bytes same (All-head (IsBelow folder) path paths below) has) short few (read folder (total + length bytes) paths (Contents rest) same (All-tail (IsBelow folder) path paths below) more)
+  read folder total _ _ same below (reading.later {path} {bytes} {paths} {kind} {count} has short few more) =
+      reading.later (file folder path bytes same (All-head (IsBelow folder) path paths below) has) short few (read folder (total + length bytes) paths (reading.TooLong kind count) same (All-tail (IsBelow folder) path paths below) more)
+  read folder total _ _ same below (reading.too_long {path} {bytes} {paths} has long) = reading.too_long (file folder path bytes same (All-head (IsBelow folder) path paths below) has) long
+  read folder total _ _ same below (reading.too_many {path} {bytes} {paths} has short many) = reading.too_many (file folder path bytes same (All-head (IsBelow folder) path paths below) has) short many
 
--- a listed file is there
-pub is_there : (files later : Option Files) (folder name path : List ℕ) (items : List Item) → later ≡ files → path ≡ inside folder name → items ≡ file_item name ∷ []
-    → IfSome files (λ m. IsFolder m folder × Lists m folder items) → IfSome later (λ m. IsFile m path → ⊥)
-    → IfSome files (λ m. IsFolder m folder → ⊥)
-is_there None later folder name path items same at one told gone = tt
-is_there (Some m) later folder name path items same at one told gone =
-    λ _.
-    let there = told.1.each 0 (file_item name) (rw one (omega arith)) in
-    let entry : IsEntryOf m folder (file_item name) = subst (λ (xs : List Item). IsEntryOf m folder (get_or xs 0 (file_item name))) one there in
-    let lost = subst (λ (o : Option Files). IfSome o (λ (m : Files). IsFile m path → ⊥)) same gone in
-    lost (subst (λ (q : List ℕ). IsFile m q) (sym at) (file_there m (inside folder name) entry.there.0 entry.there.1 (sym entry.there.2)))
+-- what a walk of a folder finds is below each folder that it is at or below
+mutual
+  found_below : (m : Files) (root : List ℕ) (depth : ℕ) (folder : List ℕ) (before more : List (List ℕ)) → IsAtOrBelow root folder → All (IsBelow root) before → Walks m depth folder before (Found more) →
+      All (IsBelow root) more
+  found_below m root depth folder before more at all (walks {names} h each) = each_below m root depth folder names before (Found more) more refl at all each
 
--- what is said of a file that is refused is a line on a refusal
-pub refusal_line : {path bytes said : List ℕ} → Refuses path bytes said → IsRefusalLine (line said)
-refusal_line {path} (no_class fault octets first) = on_file path fault
-refusal_line {path} (bad_code c name descriptor fault octets spells bad) = on_method path name descriptor fault
+  each_below : (m : Files) (root : List ℕ) (depth : ℕ) (folder : List ℕ) (names before : List (List ℕ)) (end : Walked) (more : List (List ℕ)) → end ≡ Found more → IsAtOrBelow root folder → All (IsBelow root) before →
+      WalksEach m depth folder names before end → All (IsBelow root) more
+  each_below m root depth folder _ before _ more e at all walk.none = subst (All (IsBelow root)) (found_are before more e) all
+  each_below m root depth folder _ before end more e at all (walk.class_file {name} {names} f c few rest) =
+      each_below m root depth folder names (before ++ inside folder name ∷ []) end more e at (All-push (IsBelow root) before (inside folder name) all (further root folder name at)) rest
+  each_below m root depth folder _ before _ more e at all (walk.too_many f c many) = absurd (cc e)
+  each_below m root depth folder _ before end more e at all (walk.other_file {names} f c rest) = each_below m root depth folder names before end more e at all rest
+  each_below m root depth folder _ before end more e at all (walk.folder_below {name} {names} {more = inner_paths} f low inner rest) =
+      each_below m root depth folder names inner_paths end more e at
+      (found_below m root (suc depth) (inside folder name) before inner_paths (inr (further root folder name at)) all inner) rest
+  each_below m root depth folder _ before _ more e at all (walk.ends_below f low inner) = absurd (cc e)
+  each_below m root depth folder _ before _ more e at all (walk.too_deep f deep) = absurd (cc e)
+
+-- a folder is accepted with the same program where the files agree in it
+pub accepted_too : (m n : Files) (folder : List ℕ) (main : Option (List ℕ)) (p : Program) → AgreeIn folder m n → Accepts m folder main p → Accepts n folder main p
+accepted_too m n folder main p same h =
+    let files = h.found.2 in
+    let paths : List (List ℕ) = h.found.0 in
+    let contents : List (List ℕ) = h.found.1 in
+    let below : All (IsBelow folder) paths = found_below m folder 0 folder [] paths (inl refl) (All-nil (IsBelow folder)) files.walk.1 in
+    let at : IsFolder n folder = sym same.there ∙ files.walk.0 in
+    record {
+      files = h.files;
+      found = (
+        paths,
+        contents,
+        record { walk = (at, walked m n 0 folder [] (Found paths) same.below files.walk.1); reading = read m n folder 0 paths (Contents contents) same.below below files.reading },
+        h.found.3,
+      );
+      program = h.program;
+      accepted = h.accepted;
+    }
+
+pub agree_back : (m n : Files) (folder : List ℕ) → AgreeIn folder m n → AgreeIn folder n m
+agree_back m n folder h = record { there = sym h.there; below = λ name. sym (h.below name) }

@@ -1,9 +1,5 @@
-pub mod Folders
-pub mod Requests
-pub mod Outputs
-pub mod Lines
-pub mod RunEndings
-pub mod OneAsking
-pub mod OneWriting
-pub mod OneRun
-pub mod Sayings
+mod Decided
+mod Requests
+mod Asked
+mod Folders
+mod Independent

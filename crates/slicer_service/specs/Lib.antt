@@ -1,9 +1,1 @@
-pub mod Words
-pub mod Texts
-pub mod Scripts
-pub mod Folders
-pub mod Runs
-pub mod Hosts
-pub mod Outputs
-pub mod Writing
-pub mod Endings
+pub mod Alike

@@ -1,54 +1,61 @@
 // A run of the program.
-ghost use Rattle.std.specs.Prelude.{◌≡◌, ◌⊎◌, ◌≤◌, ℕ, List, true, Some, None, IfSome, IsSomeAnd, MatchOption, map, string_bytes};
+ghost use Rattle.std.specs.Prelude.{◌≡◌, ◌⊎◌, ◌≤◌, ℕ, List, true, Some, IfSome, map, string_bytes};
 ghost use Rattle.edge_io.specs.Faults.{Rose};
 ghost use Rattle.edge_io.specs.Files.{Files};
 ghost use Rattle.edge_io.specs.Reads.{appended};
-ghost use Rattle.slicer_service.specs.Endings.{RunsAs, KeepsFiles, Says, SaysUsage, ReadFaultEnds, WriteFaultEnds};
-ghost use Rattle.slicer_service.specs.Runs.{RunOf, output_of};
-ghost use Rattle.slicer_service.specs.Texts.{usage_line};
-ghost use Rattle.slicer_service.specs.Words.{taken};
+ghost use Rattle.words.specs.Asking.{IsAsked, asked};
+ghost use Rattle.words.specs.declared.request.Request.{Request};
+ghost use Rattle.run_form.specs.Said.{usage_line};
+ghost use Rattle.run_form.specs.Outputs.{AreFiles, AreFree};
+ghost use Rattle.run_form.specs.Runs.{IsAccepted, RunOf};
+ghost use Rattle.run_form.specs.Endings.{RunsAs, AreSteady, Says, KeepsFiles};
 
-use crate::ending::refuse;
-use crate::served::serve;
-use crate::words::paths_of;
+use crate::refusing::unasked;
+use crate::served::serve_request;
+use acceptance::laws::one_end;
 use edge_io::host::Host;
+use run_form::laws::one_run;
 use std::alloc::Global;
 use std::thread::Threads;
-
-const USAGE: &[u8] = b"usage: slicer [--main NAME] FOLDER SCRIPT...\n";
+use words::reading::read_words;
 
 /// Runs the program on the words of its command line, without the program's name, and answers its exit status.
+///
+/// The words ask for a request, `[--main NAME] FOLDER SCRIPT...`, or for nothing (`words::read_words`). A session is served for each
+/// script, each on a thread of its own; its replies go to the file SCRIPT.out.
 pub fn run<R: Threads + Sync, H: Host>(rt: &R, alloc: Global, words: &[String], host: &mut H) -> u8
-    // The headline: where the host and both ends of the script are steady, the run answers, says and writes what its definition
-    // gives for the files, or ends for want of memory.
-    ensures headline { (folder script : List ℕ) → taken (map string_bytes words.now) ≡ Some (folder, script)
-        → H.steady host.old ≡ true → H.source_steady host.old script ≡ true → H.sink_steady host.old (output_of script) ≡ true
-        → (result ≡ 1) ⊎ RunsAs (H.files host.old) (H.files host.new) (H.said host.old) (H.said host.new) folder script result }
-    // Completeness: there it answers the status that the definition gives, or 1; the definition gives no two (`laws::one_run`).
-    ensures complete { (folder script : List ℕ) → taken (map string_bytes words.now) ≡ Some (folder, script)
-        → H.steady host.old ≡ true → H.source_steady host.old script ≡ true → H.sink_steady host.old (output_of script) ≡ true
-        → IfSome (H.files host.old) (λ m. (status : ℕ) (text : List ℕ) (after : Files) → RunOf m folder script status text after → (result ≡ status) ⊎ (result ≡ 1)) }
+    // The headline: where the words ask for something, the host is steady and so are the ends of each script, the run answers, says and
+    // writes what its definition gives for the files, or ends for want of memory.
+    ensures headline { (r : Request) → asked (map string_bytes words.now) ≡ Some r → H.steady host.old ≡ true
+        → AreSteady (H.source_steady host.old) (H.sink_steady host.old) r.scripts
+        → (result ≡ 1) ⊎ RunsAs (H.files host.old) (H.files host.new) (H.said host.old) (H.said host.new) (Some r) result }
+    // Completeness: there it answers the status that the definition gives, or 1; the definition gives no two (`run_form::laws::one_run`).
+    ensures complete { (r : Request) → asked (map string_bytes words.now) ≡ Some r → H.steady host.old ≡ true
+        → AreSteady (H.source_steady host.old) (H.sink_steady host.old) r.scripts
+        → IfSome (H.files host.old) (λ m. (status : ℕ) (told : List ℕ) (after : Files) → RunOf m (Some r) status told after → (result ≡ status) ⊎ (result ≡ 1)) }
+    // .. and where the folder is accepted, each script is a file and no output is a folder, it serves them, or answers 1.
+    ensures accepted { (r : Request) → IsAsked (map string_bytes words.now) r → H.steady host.old ≡ true
+        → AreSteady (H.source_steady host.old) (H.sink_steady host.old) r.scripts
+        → IfSome (H.files host.old) (λ m. IsAccepted m r → AreFiles m r.scripts → AreFree m r.scripts → (result ≡ 0) ⊎ (result ≡ 1)) }
     // Without these premises: each status but 1 has its cause.
     ensures statuses { result ≤ 5 }
-    ensures done { result ≡ 0 → IsSomeAnd (taken (map string_bytes words.now)) (λ p. RunsAs (H.files host.old) (H.files host.new) (H.said host.old) (H.said host.new) p.0 p.1 0) }
-    ensures usage { result ≡ 2 → (taken (map string_bytes words.now) ≡ None) × (H.said host.new ≡ appended usage_line (H.said host.old)) × (H.files host.new ≡ H.files host.old) }
-    ensures untaken { taken (map string_bytes words.now) ≡ None → (result ≡ 2) ⊎ (result ≡ 1) ⊎ (result ≡ 3) }
+    ensures done { result ≡ 0 → RunsAs (H.files host.old) (H.files host.new) (H.said host.old) (H.said host.new) (asked (map string_bytes words.now)) 0 }
+    ensures asked { (result ≡ 0) ⊎ (result ≡ 4) ⊎ (result ≡ 5) → (r : Request) × IsAsked (map string_bytes words.now) r }
+    ensures usage { result ≡ 2 → ((r : Request) → IsAsked (map string_bytes words.now) r → ⊥) × (H.said host.new ≡ appended usage_line (H.said host.old)) × (H.files host.new ≡ H.files host.old) }
+    ensures unasked { ((r : Request) → IsAsked (map string_bytes words.now) r → ⊥) → (result ≡ 2) ⊎ (result ≡ 1) ⊎ (result ≡ 3) }
     ensures host { result ≡ 3 → Rose (H.faults host.old) (H.faults host.new) }
-    ensures host_cause { result ≡ 3 → H.steady host.old ≡ true → IsSomeAnd (taken (map string_bytes words.now)) (λ p. RunsAs (H.files host.old) (H.files host.new) (H.said host.old) (H.said host.new) p.0 p.1 3) }
-    ensures refused { result ≡ 4 → IsSomeAnd (taken (map string_bytes words.now)) (λ p. RunsAs (H.files host.old) (H.files host.new) (H.said host.old) (H.said host.new) p.0 p.1 4) }
-    ensures ends { result ≡ 5 → IsSomeAnd (taken (map string_bytes words.now)) (λ p.
-        ReadFaultEnds (H.files host.old) (H.files host.new) (H.said host.old) (H.said host.new) p.0 p.1 (H.source_steady host.old p.1)
-        ⊎ WriteFaultEnds (H.files host.old) (H.files host.new) (H.said host.old) (H.said host.new) p.0 p.1 (H.sink_steady host.old (output_of p.1))) }
-    // Every line that is said has its cause too: one on the session, but for the one on a read fault, only where it came to its output,
-    // and then how that ended.
-    ensures says { (text : List ℕ) × (H.said host.new ≡ appended text (H.said host.old)) × MatchOption (taken (map string_bytes words.now)) (SaysUsage result text)
-        (λ p. Says (H.files host.old) (H.files host.new) p.0 p.1 (H.sink_steady host.old (output_of p.1)) result text) }
-    // In every run other files keep their contents, and the output has some of the first bytes of the replies, or is as it was.
-    ensures files { MatchOption (taken (map string_bytes words.now)) (H.files host.new ≡ H.files host.old) (λ p. KeepsFiles (H.files host.old) (H.files host.new) p.0 p.1) }
+    ensures host_cause { result ≡ 3 → H.steady host.old ≡ true → RunsAs (H.files host.old) (H.files host.new) (H.said host.old) (H.said host.new) (asked (map string_bytes words.now)) 3 }
+    ensures refused { result ≡ 4 → RunsAs (H.files host.old) (H.files host.new) (H.said host.old) (H.said host.new) (asked (map string_bytes words.now)) 4 }
+    ensures ends { result ≡ 5 → (r : Request) → asked (map string_bytes words.now) ≡ Some r → AreSteady (H.source_steady host.old) (H.sink_steady host.old) r.scripts → ⊥ }
+    // Every line that is said has its cause too: a line on a session only where the sessions began, and then how that session ended.
+    ensures says { (told : List ℕ) × (H.said host.new ≡ appended told (H.said host.old)) × Says (H.files host.old) (H.files host.new) (H.source_steady host.old) (H.sink_steady host.old) (asked (map string_bytes words.now)) result told }
+    // In every run what is no output keeps its contents, and an output is as it was or has some of the first bytes of its replies.
+    ensures files { KeepsFiles (H.files host.old) (H.files host.new) (asked (map string_bytes words.now)) }
 {
-    let _ = rt;
-    match paths_of(words) {
-        Some(paths) => serve(alloc, paths.folder, paths.script, host),
-        None => refuse(host, USAGE, 2),
+    one_run();
+    one_end();
+    match read_words(alloc, words) {
+        Ok(request) => serve_request(rt, alloc, host, &request),
+        Err(error) => unasked(host, error),
     }
 }

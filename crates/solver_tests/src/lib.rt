@@ -3,3 +3,5 @@
 
 #[cfg(test)]
 mod systems;
+#[cfg(test)]
+mod written_system;

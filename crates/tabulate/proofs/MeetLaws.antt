@@ -190,8 +190,8 @@ module _ (p : Facts) where
 
     module _ (e : ExitId) (Had Has : ExitId → Type 0) (ms : List (Option Method)) (h : Hands) (asked : List ExitId) (ts : List Found) (queue : List NodeId) (st : ℕ) where
       -- nothing changed
-      pub step_none : (D : ExitId → Type 0) → Holds p mode e Has ms h asked ts queue → ((d : ExitId) → D d → IsKnown h asked d) → MeetStep p mode e Had Has D ms h h asked asked ts ts queue queue st st
-      step_none D s known = record { holds = s; meets = meets_none h asked ts s.begun; known = known; wanting = λ d c. inl c; work = omega arith }
+      pub step_none : (First : ExitId → Type 0) → Holds p mode e Has ms h asked ts queue → ((d : ExitId) → First d → IsKnown h asked d) → MeetStep p mode e Had Has First ms h h asked asked ts ts queue queue st st
+      step_none First s known = record { holds = s; meets = meets_none h asked ts s.begun; known = known; wanting = λ d c. inl c; work = omega arith }
 
       -- a row came to hand
       pub step_put : (h' : Hands) (d : ExitId) (x : NodeId) → Holds p mode e Has ms h asked ts queue → IsExitAt p d x → IsMet ms (method_of p x.0) → (bits : List ℕ) → IsPut h h' d.0 bits → IsRow p mode d bits → Has d → (Contains asked d → ⊥) → hand_of h d.0 ≡ None
@@ -217,10 +217,10 @@ module _ (p : Facts) where
       }
 
     -- one step after another
-    pub step_then : (e : ExitId) (Had Had1 Has1 Has : ExitId → Type 0) (D D1 D' : ExitId → Type 0) (ms1 ms : List (Option Method)) (h h1 h2 : Hands) (asked asked1 asked2 : List ExitId) (ts ts1 ts2 : List Found) (q q1 q2 : List NodeId) (st st1 st2 : ℕ)
-        → ((d : ExitId) → Had d → Had1 d) → ((d : ExitId) → D' d → D d ⊎ D1 d)
-        → MeetStep p mode e Had Has1 D ms1 h h1 asked asked1 ts ts1 q q1 st st1 → MeetStep p mode e Had1 Has D1 ms h1 h2 asked1 asked2 ts1 ts2 q1 q2 st1 st2 → MeetStep p mode e Had Has D' ms h h2 asked asked2 ts ts2 q q2 st st2
-    step_then e Had Had1 Has1 Has D D1 D' ms1 ms h h1 h2 asked asked1 asked2 ts ts1 ts2 q q1 q2 st st1 st2 had cases a b = record {
+    pub step_then : (e : ExitId) (Had Had1 Has1 Has : ExitId → Type 0) (First Second Both : ExitId → Type 0) (ms1 ms : List (Option Method)) (h h1 h2 : Hands) (asked asked1 asked2 : List ExitId) (ts ts1 ts2 : List Found) (q q1 q2 : List NodeId) (st st1 st2 : ℕ)
+        → ((d : ExitId) → Had d → Had1 d) → ((d : ExitId) → Both d → First d ⊎ Second d)
+        → MeetStep p mode e Had Has1 First ms1 h h1 asked asked1 ts ts1 q q1 st st1 → MeetStep p mode e Had1 Has Second ms h1 h2 asked1 asked2 ts1 ts2 q1 q2 st1 st2 → MeetStep p mode e Had Has Both ms h h2 asked asked2 ts ts2 q q2 st st2
+    step_then e Had Had1 Has1 Has First Second Both ms1 ms h h1 h2 asked asked1 asked2 ts ts1 ts2 q q1 q2 st st1 st2 had cases a b = record {
       holds = b.holds;
       meets = meets_then h h1 h2 asked asked1 asked2 ts ts1 ts2 a.meets b.meets;
       known = λ d k. elim (cases d k) [

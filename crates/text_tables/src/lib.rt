@@ -14,6 +14,7 @@ mod spelling;
 mod tests;
 
 pub use classes::class_names;
+pub use finding::code_of;
 pub use lines::line_table;
 pub use methods::method_texts;
 pub use sites::site_names;

@@ -25,7 +25,7 @@ use Rattle.program_form.specs.Statements.{HasOpcode, IsAt, OperandIs}
 use Rattle.program_form.specs.Systems.{VariableNumber, of_value, of_argument, of_caught}
 use Rattle.program_form.specs.Values.{PassesOn}
 use Rattle.value_tables.specs.Methods.{IsMethod, IsVarOf}
-use Rattle.value_tables.specs.Values.{PointHas}
+use Rattle.value_tables.specs.Values.{OperandHas, PointHas}
 use Rattle.value_tables.specs.declared.method.Method.{Method}
 
 module _ (p : Program) (coded : IsProgramOfCode p) (x : Method) (is : IsMethod x) (among : Contains p.bodies x.body.now) (q : Point) (has : Contains x.body.now.shape.points q) where
@@ -36,7 +36,7 @@ module _ (p : Program) (coded : IsProgramOfCode p) (x : Method) (is : IsMethod x
   t = record { method = b.method; pc = q.pc }
 
   -- the instruction at the point
-  instr : (i : Instr) × IsAt p t b i × (q.op ≡ i.op)
+  pub instr : (i : Instr) × IsAt p t b i × (q.op ≡ i.op)
   instr =
       let each = (coded_body p coded b among).is.shape.2.depths.2.each q has in
       (each.0, (among, refl, each.1.0, sym each.2.pc, (q, (has, refl))), each.2.op)
@@ -73,12 +73,20 @@ module _ (p : Program) (coded : IsProgramOfCode p) (x : Method) (is : IsMethod x
       subst K (sym instr.2) (subst (λ (z : Instr). K z.op) same.1 kind)
 
   -- the point of an operand is this one
-  operand_is : (i : ℕ) (d : Def) → OperandIs p t i d → (u : SlotUse) × Contains q.uses u × (u.operand ≡ i) × HoldsAt b.shape q.pc u.slot d
+  pub operand_is : (i : ℕ) (d : Def) → OperandIs p t i d → (u : SlotUse) × Contains q.uses u × (u.operand ≡ i) × HoldsAt b.shape q.pc u.slot d
   operand_is i d (a, j, at, (r, (point, pc), u, use', e, holds)) =
       let same : a ≡ b = one_body p coded a b at.0 among at.1 in
       let here = subst (λ (z : Body). Contains z.shape.points r) same point in
       let one' : r ≡ q = one_by_order (λ (y z : Point). y.pc < z.pc) b.shape.points r q is.points (λ lt. omega (arith, lt, pc)) (λ lt. omega (arith, lt, pc)) here has in
       (u, subst (λ (z : Point). Contains z.uses u) one' use', e, subst (λ (z : Body). HoldsAt z.shape q.pc u.slot d) same holds)
+
+  pub to_operand : (i : ℕ) (h : SiteId) → OperandHas x q i h → OperandSite p x.system.now t i h
+  to_operand i h (u, use', (e, (d, holds, (v, var, site)))) = (d, v, (b, instr.0, instr.1, (q, (has, refl), u, use', e, holds)), number_of d v var, site)
+
+  pub of_operand : (i : ℕ) (h : SiteId) → OperandSite p x.system.now t i h → OperandHas x q i h
+  of_operand i h (d, v, operand, number, site) =
+      let u = operand_is i d operand in
+      (u.0, u.1, (u.2, (d, u.3, (v, var_of d v number, site))))
 
   pub of_value' : (h : SiteId) → ValueSite p x.system.now t h → PointHas x q h
   of_value' h (made {x = v} o number site) = inl (v, var_of (Value q.pc) v number, site)

@@ -47,10 +47,10 @@ use Rattle.value_tables.proofs.OfPoints.{to_value, of_value'}
 same_cmp : (a b : ℕ) → a ≡ b → nat_cmp a b ≡ Equal
 same_cmp a b e = sym (nat_cmp_is a b Equal e)
 
-later_pc : (m : MethodId) (i j : ℕ) → i < j → statement_cmp (record { method = m; pc = i }) (record { method = m; pc = j }) ≡ Less
+pub later_pc : (m : MethodId) (i j : ℕ) → i < j → statement_cmp (record { method = m; pc = i }) (record { method = m; pc = j }) ≡ Less
 later_pc m i j lt = ap (λ (o : Ordering). ordering_then o (nat_cmp i j)) (same_cmp m.0 m.0 refl) ∙ sym (nat_cmp_is i j Less lt)
 
-later_method : (a b : Statement) → a.method.0 < b.method.0 → statement_cmp a b ≡ Less
+pub later_method : (a b : Statement) → a.method.0 < b.method.0 → statement_cmp a b ≡ Less
 later_method a b lt = ap (λ (o : Ordering). ordering_then o (nat_cmp a.pc b.pc)) (sym (nat_cmp_is a.method.0 b.method.0 Less lt))
 
 -- ONE MORE ELEMENT
@@ -67,7 +67,7 @@ module _ {X A : Type 0} (R : X → A → Type 0) (xs : List X) (i : ℕ) (d : X)
   to_more a (inr r) = (get_or xs i d, subst (λ (ys : List X). Contains ys (get_or xs i d)) (sym (take_more xs i d lt)) (Contains-push (take i xs) (get_or xs i d)), r)
 
 -- an element of the beginning comes before the next
-before_next : {X : Type 0} (B : X → X → Type 0) (xs : List X) (i : ℕ) (d : X) → i < length xs → AllPairs B xs → (x : X) → Contains (take i xs) x → B x (get_or xs i d)
+pub before_next : {X : Type 0} (B : X → X → Type 0) (xs : List X) (i : ℕ) (d : X) → i < length xs → AllPairs B xs → (x : X) → Contains (take i xs) x → B x (get_or xs i d)
 before_next {X} B xs i d lt order x c =
     let k = index_in (take i xs) x c in
     let here : slice_get xs k.0 ≡ Some x = subst (λ (ys : List X). slice_get ys k.0 ≡ Some x) (take-append-drop i xs) (join_left (take i xs) (drop i xs) k.0 x k.1) in

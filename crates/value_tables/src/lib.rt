@@ -8,4 +8,6 @@ mod operands;
 mod sites;
 mod table;
 
+pub use method::Method;
+pub use operands::operand_sites;
 pub use table::value_table;

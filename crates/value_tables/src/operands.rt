@@ -1,5 +1,7 @@
 // What operands may be.
-ghost use Rattle.std.specs.Prelude.{◌≡◌, ◌↔◌, IsTrue, MatchOption, OnOk, ℕ};
+ghost use Rattle.std.specs.Prelude.{◌≡◌, ◌↔◌, IfOk, IsTrue, MatchOption, OnOk, ℕ};
+ghost use Rattle.slicer_ids.specs.Order.{SiteBefore};
+ghost use Rattle.slicer_ids.specs.Sets.{IsOrderedListOf};
 ghost use Rattle.worklists.specs.Growth.{FromOne};
 ghost use Rattle.mod_ref.specs.Gains.{Gains};
 ghost use Rattle.program_form.specs.Values.{PassesOn};
@@ -8,9 +10,10 @@ ghost use Rattle.value_tables.specs.Values.{DefHas, MadeHas, OperandHas, PassedH
 
 use crate::looking::{numbered, var_of};
 use crate::method::Method;
-use crate::sites::add_found;
+use crate::sites::{add_found, in_order};
 use class_form::body::{Def, Point, SlotUse};
 use slicer_ids::ids::{NoMemory, SiteId};
+use std::alloc::Global;
 
 // Adds what the variable of a definition may be.
 fn add_def(x: &Method<'_>, sites: &mut Vec<SiteId>, def: Def) -> Result<(), NoMemory>
@@ -77,6 +80,21 @@ fn add_operand(
         add_use(x, sites, point.pc, i, slot_use)?;
     }
     Ok(())
+}
+
+/// What an operand of the statement at a point may be, in order.
+pub fn operand_sites(
+    alloc: Global,
+    x: &Method<'_>,
+    point: &Point,
+    i: u8,
+) -> Result<Vec<SiteId>, NoMemory>
+    requires { IsMethod x.now }
+    ensures { IfOk result (λ hs. IsOrderedListOf SiteBefore hs.items (OperandHas x.now point.now i)) }
+{
+    let mut sites = Vec::new(alloc);
+    add_operand(x, &mut sites, point, i)?;
+    Ok(in_order(sites))
 }
 
 // The operand that an instruction passes on.

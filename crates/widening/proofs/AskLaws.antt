@@ -125,9 +125,9 @@ module _ (f : Facts) (E : Edge → Type 0) where
       subst (λ (y : ExitId). Contains asked y) (ap (λ (n : ℕ). record { 0 = n }) (sym place)) g.was_asked
 
   -- one step after another
-  pub step_then : (D D1 D' : ExitId → Type 0) (ms1 ms : List (Option Method)) (p p1 p2 : Pairs) (t t1 t2 : ℕ) → ((d : ExitId) → D' d → D d ⊎ D1 d) → ((d : ExitId) → D d ⊎ D1 d → D' d)
-      → IsAskedStep f E D ms1 p p1 t t1 → IsAskedStep f E D1 ms p1 p2 t1 t2 → IsAskedStep f E D' ms p p2 t t2
-  step_then D D1 D' ms1 ms p p1 p2 t t1 t2 to from a b = record {
+  pub step_then : (First Second Both : ExitId → Type 0) (ms1 ms : List (Option Method)) (p p1 p2 : Pairs) (t t1 t2 : ℕ) → ((d : ExitId) → Both d → First d ⊎ Second d) → ((d : ExitId) → First d ⊎ Second d → Both d)
+      → IsAskedStep f E First ms1 p p1 t t1 → IsAskedStep f E Second ms p1 p2 t1 t2 → IsAskedStep f E Both ms p p2 t t2
+  step_then First Second Both ms1 ms p p1 p2 t t1 t2 to from a b = record {
     pairs = b.pairs;
     adds = adds_then (Has f p) (Waits f p) (Has f p1) (Waits f p1) (Has f p2) (Waits f p2) (AsksAny f p1.asked.items) (AsksAny f p2.asked.items) (AsksAny f p2.asked.items) (λ K L m x r. r) (λ K x r. inr r)
         (λ K x r. elim r [ inl u ↦ (u.0, u.1, b.kept u.0 u.2, u.3, u.4) | inr v ↦ v ]) a.adds b.adds;

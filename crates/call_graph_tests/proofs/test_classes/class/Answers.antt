@@ -1,5 +1,5 @@
 use Rattle.std.proofs.Common.{refl}
-use Rattle.hierarchy.proofs.TestMembers.{test_class}
+use Rattle.hierarchy_tests.proofs.TestMembers.{test_class}
 use Rattle.call_graph_tests.proofs.test_classes.class.Goals as goal
 
 pub returns : goal.returns

@@ -1,6 +1,6 @@
 use Rattle.std.proofs.Common.{◌≡◌, length}
 use Rattle.std.specs.Prelude.{All}
-use Rattle.hierarchy.specs.TestClasses.{IsTestClass}
+use Rattle.hierarchy_tests.specs.TestClasses.{IsTestClass}
 use Rattle.call_graph_tests.proofs.test_classes.folder.Given as goal
 
 abbrev pub invariant-loop-shape : goal.invariant-loop-shape

@@ -1,7 +1,7 @@
 use Rattle.std.proofs.Common.{sym, subst}
 use Rattle.std.specs.Prelude.{All}
 use Rattle.std.proofs.lemmas.List.Elements.{All-push}
-use Rattle.hierarchy.specs.TestClasses.{IsTestClass}
+use Rattle.hierarchy_tests.specs.TestClasses.{IsTestClass}
 use Rattle.call_graph_tests.proofs.test_classes.push.Goals as goal
 use Rattle.call_graph_tests.proofs.test_classes.push.Goals.{in-Ok, in-Err}
 

@@ -1,7 +1,7 @@
 use Rattle.std.proofs.Common.{List, refl, sym, subst}
 use Rattle.class_form.specs.declared.pool.Constant.{Constant}
-use Rattle.hierarchy.specs.TestClasses.{HasTestTexts}
-use Rattle.hierarchy.proofs.TestMembers.{test_class}
+use Rattle.hierarchy_tests.specs.TestClasses.{HasTestTexts}
+use Rattle.hierarchy_tests.proofs.TestMembers.{test_class}
 use Rattle.large_folders.specs.Pools.{pool_of}
 use Rattle.large_folders.proofs.classes.class.Goals as goal
 

@@ -1,4 +1,4 @@
-use Rattle.hierarchy.specs.TestClasses.{HasTestTexts}
+use Rattle.hierarchy_tests.specs.TestClasses.{HasTestTexts}
 use Rattle.large_folders.specs.Pools.{pool_of}
 use Rattle.large_folders.proofs.classes.push_interfaces.Given as goal
 

@@ -1,4 +1,4 @@
-use Rattle.hierarchy.proofs.TestMembers.{test_classes, few_test_classes}
+use Rattle.hierarchy_tests.proofs.TestMembers.{test_classes, few_test_classes}
 use Rattle.large_folders.proofs.folders.hierarchy.Goals as goal
 
 pub build-requires : goal.build-requires

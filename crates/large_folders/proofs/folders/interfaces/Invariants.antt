@@ -1,6 +1,6 @@
 use Rattle.std.proofs.Common.{◌≡◌, length}
 use Rattle.std.specs.Prelude.{All}
-use Rattle.hierarchy.specs.TestClasses.{IsTestClass}
+use Rattle.hierarchy_tests.specs.TestClasses.{IsTestClass}
 use Rattle.large_folders.proofs.folders.interfaces.Given as goal
 
 abbrev pub invariant-loop-number : goal.invariant-loop-number

@@ -13,7 +13,7 @@ loop-outcome-init g c = record {
   knows = view_itself (view_of c.args.desk.now.session.seat);
   count = omega arith;
   served = λ script start h. h;
-  sink = sink_itself g.K.Sink.label g.K.Sink.faults g.K.Sink.steady c.args.desk.now.sink;
+  sink = sink_itself g.K.Sink.written g.K.Sink.label g.K.Sink.faults g.K.Sink.steady c.args.desk.now.sink;
   source = omega arith;
   as_steady = refl;
   still = λ s. refl;
@@ -28,7 +28,7 @@ loop-outcome-preserved g c =
       knows = knows_all (view_of c.args.desk.now.session.seat) (view_of c.loop-outcome.desk.session.seat) (view_of c.turn.new.session.seat) v.knows c.turn.ensures.knows;
       count = c.turn.ensures.count c.in_default.is;
       served = λ script start h. c.in_default.ensures.served script start (v.served script start h);
-      sink = sink_later g.K.Sink.label g.K.Sink.faults g.K.Sink.steady c.args.desk.now.sink c.loop-outcome.desk.sink c.turn.new.sink v.sink c.turn.ensures.sink;
+      sink = sink_later g.K.Sink.written g.K.Sink.label g.K.Sink.faults g.K.Sink.steady c.args.desk.now.sink c.loop-outcome.desk.sink c.turn.new.sink v.sink c.turn.ensures.sink;
       source = omega (arith, v.source, c.turn.ensures.source);
       as_steady = c.turn.ensures.steady ∙ v.as_steady;
       still = λ s. c.turn.ensures.still (v.as_steady ∙ s) ∙ v.still s;
@@ -68,4 +68,4 @@ returns-in-Some-clause-cause g c =
     (g.K.Sink.faults c.args.desk.now.sink) (g.K.Sink.faults c.loop-outcome.desk.sink) (g.K.Sink.faults c.turn.new.sink) v.source v.sink.count c.in-Some.ensures.cause
 
 pub returns-in-Some-clause-sink : goal.returns-in-Some-clause-sink
-returns-in-Some-clause-sink g c = sink_later g.K.Sink.label g.K.Sink.faults g.K.Sink.steady c.args.desk.now.sink c.loop-outcome.desk.sink c.turn.new.sink c.loop-outcome.invariant.sink c.turn.ensures.sink
+returns-in-Some-clause-sink g c = sink_later g.K.Sink.written g.K.Sink.label g.K.Sink.faults g.K.Sink.steady c.args.desk.now.sink c.loop-outcome.desk.sink c.turn.new.sink c.loop-outcome.invariant.sink c.turn.ensures.sink

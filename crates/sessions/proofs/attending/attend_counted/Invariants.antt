@@ -21,7 +21,7 @@ invariant-loop-outcome g l =
       count : l.count ≤ l.desk.reader.bytes;
       served : (script : List ℕ) (start : Option (List ℕ)) → IsServed l.shared.facts script start l.fn.desk.reader (left l.fn.desk.source) l.fn.desk.session (written l.fn.desk.sink) 0
           → IsServed l.shared.facts script start l.desk.reader (left l.desk.source) l.desk.session (written l.desk.sink) l.count;
-      sink : IsSinkLater g.K.Sink.label g.K.Sink.faults g.K.Sink.steady l.fn.desk.sink l.desk.sink;
+      sink : IsSinkLater g.K.Sink.written g.K.Sink.label g.K.Sink.faults g.K.Sink.steady l.fn.desk.sink l.desk.sink;
       source : faults l.fn.desk.source ≤ faults l.desk.source;
       as_steady : steady l.desk.source ≡ steady l.fn.desk.source;
       still : steady l.fn.desk.source ≡ true → faults l.desk.source ≡ faults l.fn.desk.source;

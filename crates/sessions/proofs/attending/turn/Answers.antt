@@ -85,7 +85,7 @@ returns-in-Last-clause-cause g c =
     cause_last c.args.shared.now.facts c.line-in-Last.result.now c.args.session.now.state (written c.args.sink.now) (written z.sink) c.args.count.now (g.S.Source.faults c.args.source.now) (g.S.Source.faults c.next.new.source) (g.K.Sink.faults c.args.sink.now) (g.K.Sink.faults z.sink) c.take_last.result c.take_last.ensures.told
 
 pub returns-in-End-clause-sink : goal.returns-in-End-clause-sink
-returns-in-End-clause-sink g c = sink_itself g.K.Sink.label g.K.Sink.faults g.K.Sink.steady c.args.sink.now
+returns-in-End-clause-sink g c = sink_itself g.K.Sink.written g.K.Sink.label g.K.Sink.faults g.K.Sink.steady c.args.sink.now
 
 pub returns-in-TooLong-clause-cause : goal.returns-in-TooLong-clause-cause
 returns-in-TooLong-clause-cause g c =
@@ -97,4 +97,4 @@ pub returns-in-Fault-clause-cause : goal.returns-in-Fault-clause-cause
 returns-in-Fault-clause-cause g c = c.in-Fault.ensures.fault refl
 
 pub returns-in-Fault-clause-sink : goal.returns-in-Fault-clause-sink
-returns-in-Fault-clause-sink g c = sink_itself g.K.Sink.label g.K.Sink.faults g.K.Sink.steady c.args.sink.now
+returns-in-Fault-clause-sink g c = sink_itself g.K.Sink.written g.K.Sink.label g.K.Sink.faults g.K.Sink.steady c.args.sink.now

@@ -20,7 +20,7 @@ pub returns-in-None-clause-part : goal.returns-in-None-clause-part
 returns-in-None-clause-part g c = λ e is. (0, inl refl, appended_none (g.K.Sink.written c.args.sink.now))
 
 pub returns-in-None-clause-sink : goal.returns-in-None-clause-sink
-returns-in-None-clause-sink g c = sink_itself g.K.Sink.label g.K.Sink.faults g.K.Sink.steady c.args.sink.now
+returns-in-None-clause-sink g c = sink_itself g.K.Sink.written g.K.Sink.label g.K.Sink.faults g.K.Sink.steady c.args.sink.now
 
 pub returns-in-None-clause-fault : goal.returns-in-None-clause-fault
 returns-in-None-clause-fault g c = no_fault_here (Rose (g.K.Sink.faults c.args.sink.now) (g.K.Sink.faults c.args.sink.now))

@@ -10,4 +10,4 @@ pub returns-in-Blank-clause-knows : goal.returns-in-Blank-clause-knows
 returns-in-Blank-clause-knows g c = view_itself (view_of c.args.session.now.seat)
 
 pub returns-in-Blank-clause-sink : goal.returns-in-Blank-clause-sink
-returns-in-Blank-clause-sink g c = sink_itself g.K.Sink.label g.K.Sink.faults g.K.Sink.steady c.args.sink.now
+returns-in-Blank-clause-sink g c = sink_itself g.K.Sink.written g.K.Sink.label g.K.Sink.faults g.K.Sink.steady c.args.sink.now

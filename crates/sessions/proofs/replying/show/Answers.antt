@@ -30,7 +30,7 @@ pub returns-in-Err-clause-part : goal.returns-in-Err-clause-part
 returns-in-Err-clause-part g c = λ a after is. (0, inl refl, appended_none (g.K.Sink.written c.args.sink.now))
 
 pub returns-in-Err-clause-sink : goal.returns-in-Err-clause-sink
-returns-in-Err-clause-sink g c = sink_itself g.K.Sink.label g.K.Sink.faults g.K.Sink.steady c.args.sink.now
+returns-in-Err-clause-sink g c = sink_itself g.K.Sink.written g.K.Sink.label g.K.Sink.faults g.K.Sink.steady c.args.sink.now
 
 pub returns-in-Err-clause-fault : goal.returns-in-Err-clause-fault
 returns-in-Err-clause-fault g c = no_fault_here (Rose (g.K.Sink.faults c.args.sink.now) (g.K.Sink.faults c.args.sink.now))

@@ -1,0 +1,4 @@
+pub mod Joined
+pub mod NodeOrder
+pub mod Produced
+pub mod Accessed

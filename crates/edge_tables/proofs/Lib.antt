@@ -1,0 +1,14 @@
+pub mod Passing
+pub mod RowEdges
+pub mod OutsideEdges
+pub mod CallEdges
+pub mod Local
+pub mod AgainEdges
+pub mod OutsideFlows
+pub mod RowParts
+pub mod LinkOrder
+pub mod LinkLists
+pub mod CallFlows
+pub mod DirectFlows
+pub mod Joined
+pub mod EndFlows

@@ -1,0 +1,13 @@
+use Rattle.std.proofs.Common.{◌≡◌}
+use Rattle.edge_tables.specs.Calls.{IsBackLinkEdge}
+use Rattle.mod_ref.proofs.Gaining.{gains_first, gains_more, gains_all}
+use Rattle.edge_tables.proofs.calls.add_links_back.Goals as goal
+
+pub loop-link-init : goal.loop-link-init
+loop-link-init c = gains_first (IsBackLinkEdge c.args.scene.now.rows.now c.args.scene.now.firsts.now c.args.to.now.first c.args.to.now.nodes.now) c.args.links.now c.args.edges.now.items
+
+pub loop-link-preserved : goal.loop-link-preserved
+loop-link-preserved c = gains_more (IsBackLinkEdge c.args.scene.now.rows.now c.args.scene.now.firsts.now c.args.to.now.first c.args.to.now.nodes.now) c.args.links.now c.loop-link.link-index _ c.args.edges.now.items c.loop-link.edges.items c.add_link_back.new.edges.items c.loop-link-test.true c.loop-link.invariant c.in_ok-add_link_back.ensures
+
+pub returns : goal.returns
+returns c = gains_all (IsBackLinkEdge c.args.scene.now.rows.now c.args.scene.now.firsts.now c.args.to.now.first c.args.to.now.nodes.now) c.args.links.now c.loop-link.link-index c.args.edges.now.items c.loop-link.edges.items c.loop-link-test.false c.loop-link.invariant

@@ -1,0 +1,8 @@
+/** A payment was refused: so much was missing. */
+class Refused extends Exception {
+    int missing;
+
+    Refused(int missing) {
+        this.missing = missing;
+    }
+}

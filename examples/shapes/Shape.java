@@ -1,0 +1,6 @@
+/** A shape of some size. */
+abstract class Shape {
+    int size;
+
+    abstract int area();
+}

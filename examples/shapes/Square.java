@@ -1,0 +1,6 @@
+/** A square. */
+class Square extends Shape {
+    int area() {
+        return size * size;
+    }
+}
