@@ -5,8 +5,9 @@ use Rattle.class_form.specs.declared.class_file.ClassFile.{ClassFile}
 use Rattle.class_form.proofs.ClassLaws.{one_value}
 use Rattle.folder_form.specs.Walks.{Walked, Found, WalksFolder}
 use Rattle.folder_form.specs.Reading.{Read, Contents, ReadsAll}
-use Rattle.program_reader.specs.Readings.{IsSound, Refuses}
-use Rattle.program_reader.proofs.OneMain.{not_refused, one_line}
+use Rattle.body_rules.specs.Methods.{IsSound}
+use Rattle.body_rules.specs.Refused.{Refuses}
+use Rattle.body_rules.proofs.OneLine.{not_refused, one_line}
 use Rattle.acceptance.specs.Classes.{HasFiles, AreSound, none, file, IsFirstRefused, here, later, AreClasses}
 
 pub sound_once : (contents : List (List ℕ)) (a b : List ClassFile) → AreSound contents a → AreSound contents b → a ≡ b

@@ -23,8 +23,8 @@ use Rattle.program_form.specs.Programs.{Program, CodeOf}
 use Rattle.program_form.specs.Systems.{ForeignBefore}
 use Rattle.program_code.specs.Codes.{IsProgramOfCode}
 use Rattle.program_code.proofs.OneProgram.{one_list_of_bodies}
-use Rattle.program_reader.specs.Readings.{IsSound}
-use Rattle.program_reader.proofs.Octets.{code_octets}
+use Rattle.body_rules.specs.Methods.{IsSound}
+use Rattle.body_rules.proofs.Octets.{code_octets}
 use Rattle.call_graph.specs.Entries.{AreEntries, IsEntry, HasNoEntry}
 use Rattle.call_graph.proofs.OneNumbering.{one_numbering}
 use Rattle.constraint_form.proofs.SiteNumbers.{foreign_asym}

@@ -4,7 +4,8 @@ use Rattle.edge_io.specs.Files.{Files, inside}
 use Rattle.folder_form.specs.Walks.{WalksFolder, Found}
 use Rattle.folder_form.specs.Reading.{ReadsAll, Contents}
 use Rattle.class_form.specs.declared.class_file.ClassFile.{ClassFile}
-use Rattle.program_reader.specs.Readings.{IsSound, Refuses}
+use Rattle.body_rules.specs.Methods.{IsSound}
+use Rattle.body_rules.specs.Refused.{Refuses}
 
 -- the walk of the folder finds class files at these paths, and they have these bytes
 pub record HasFiles (m : Files) (folder : List ℕ) (paths contents : List (List ℕ)) : Type 0 where

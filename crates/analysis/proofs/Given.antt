@@ -18,8 +18,8 @@ use Rattle.body_form.specs.Bodies.{IsBodyOf}
 use Rattle.constraint_form.specs.Asked.{IsReadProgram}
 use Rattle.constraint_form.specs.ConstraintSystems.{IsConstraintSystem}
 use Rattle.variable_tables.specs.Statements.{IsFollowed, AreFollowed}
-use Rattle.program_reader.specs.Mains.{IsCoded, number_of}
-use Rattle.program_reader.proofs.Octets.{flow_of}
+use Rattle.body_rules.specs.Methods.{IsCoded, number_of}
+use Rattle.body_rules.proofs.Octets.{flow_of}
 use Rattle.fact_form.specs.Handed.{IsProgramWith}
 use Rattle.call_graph.specs.Entries.{IsEntry}
 use Rattle.signature_tables.specs.Programs.{IsOfClasses}

@@ -16,3 +16,4 @@ mod system;
 pub use analysing::{Analysed, analyse};
 pub use folders::load_analysed;
 pub use refusing::too_many;
+pub use system::system_of;

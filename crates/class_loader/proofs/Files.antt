@@ -11,7 +11,8 @@ use Rattle.class_form.proofs.Indices.{there_at}
 use Rattle.class_form.specs.ClassRules.{IsClassFile}
 use Rattle.class_form.specs.Numbers.{IsNamedClass}
 use Rattle.class_form.specs.declared.class_file.ClassFile.{ClassFile}
-use Rattle.program_reader.specs.Readings.{IsSound, Refuses}
+use Rattle.body_rules.specs.Methods.{IsSound}
+use Rattle.body_rules.specs.Refused.{Refuses}
 use Rattle.read_programs.proofs.Named.{all_named}
 use Rattle.folder_reader.specs.Below.{IsBelow}
 use Rattle.class_loader.specs.Sound.{IsSoundClass}

@@ -19,7 +19,7 @@ use Rattle.program_form.specs.Programs.{Program, CodeOf}
 use Rattle.program_code.specs.Codes.{IsOfMethod, IsProgramOfCode, MethodBefore}
 use Rattle.hierarchy.specs.Places.{declared_at}
 use Rattle.call_graph.proofs.OneNumbering.{one_numbering}
-use Rattle.program_reader.specs.Mains.{IsCoded, number_of}
+use Rattle.body_rules.specs.Methods.{IsCoded, number_of}
 use Rattle.class_loader.specs.Sound.{IsSoundClass}
 use Rattle.class_loader.specs.Below.{program_with, AreBodiesBelow, AddsBody, AddsBodyAt}
 

@@ -10,7 +10,7 @@ use Rattle.class_form.specs.declared.body.Body.{Body}
 use Rattle.body_form.specs.Bodies.{IsBodyOf}
 use Rattle.program_form.specs.Programs.{Program, CodeOf}
 use Rattle.program_code.specs.Codes.{IsOfMethod, MethodBefore}
-use Rattle.program_reader.specs.Mains.{IsCoded, number_of}
+use Rattle.body_rules.specs.Methods.{IsCoded, number_of}
 
 -- a program of these classes and methods, of which no more is said
 abbrev pub program_with : List ClassFile → List Declared → Program

@@ -6,7 +6,7 @@ use Rattle.class_form.specs.declared.class_file.ClassFile.{ClassFile}
 use Rattle.class_form.specs.declared.body.Body.{Body}
 use Rattle.program_form.specs.Programs.{Program}
 use Rattle.program_code.specs.Codes.{IsProgramOfCode}
-use Rattle.program_reader.specs.Mains.{HaveBodies}
+use Rattle.body_rules.specs.Methods.{HaveBodies}
 
 -- the class file keeps the rules of class files, and the code of all of its methods has bodies
 abbrev pub IsSoundClass : ClassFile → Type 0

@@ -2,7 +2,8 @@
 use Rattle.std.specs.Prelude.{◌≡◌, ℕ, List, [], ◌∷◌, ◌++◌, Some, slice_get}
 use Rattle.edge_io.specs.Files.{inside}
 use Rattle.class_form.specs.declared.class_file.ClassFile.{ClassFile}
-use Rattle.program_reader.specs.Readings.{IsSound, Refuses}
+use Rattle.body_rules.specs.Methods.{IsSound}
+use Rattle.body_rules.specs.Refused.{Refuses}
 
 -- the class of the file, which is sound, is added
 abbrev pub AddsClass : List (List ℕ) → ℕ → List ClassFile → List ClassFile → Type 0

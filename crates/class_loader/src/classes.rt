@@ -5,7 +5,7 @@ ghost use Rattle.edge_io.specs.Files.{inside};
 ghost use Rattle.class_form.specs.Numbers.{IsNamedClass};
 ghost use Rattle.hierarchy.specs.Trees.{AreFew};
 ghost use Rattle.folder_reader.specs.Below.{IsBelow};
-ghost use Rattle.program_reader.specs.Readings.{IsSound};
+ghost use Rattle.body_rules.specs.Methods.{IsSound};
 ghost use Rattle.acceptance.specs.Classes.{AreSound, IsFirstRefused};
 ghost use Rattle.class_loader.specs.Taking.{AddsClass, IsRefusedFile};
 

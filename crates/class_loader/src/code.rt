@@ -8,8 +8,8 @@ ghost use Rattle.class_form.specs.declared.class_file.CodeBody.{CodeBody};
 ghost use Rattle.class_form.specs.declared.code_error.CodeError.{CodeError};
 ghost use Rattle.body_form.specs.Bodies.{IsReadable, IsBodyOf, IsFirstFault};
 ghost use Rattle.refusal_lines.specs.Refusals.{method_refusal};
-ghost use Rattle.program_reader.specs.Mains.{IsCoded, HasBody, HaveBodies};
-ghost use Rattle.program_reader.specs.Entering.{IsRefusedAt, IsBadLine};
+ghost use Rattle.body_rules.specs.Methods.{IsCoded, HasBody, HaveBodies};
+ghost use Rattle.body_rules.specs.Refused.{IsRefusedAt, IsBadLine};
 
 use crate::error::ClassesError;
 use class_form::body::Body;

@@ -6,7 +6,7 @@ ghost use Rattle.class_form.specs.Numbers.{AreMethods};
 ghost use Rattle.class_form.specs.declared.class_file.Member.{Member};
 ghost use Rattle.body_form.specs.Bodies.{IsBodyOf};
 ghost use Rattle.hierarchy.specs.Places.{declared_at};
-ghost use Rattle.program_reader.specs.Mains.{IsCoded};
+ghost use Rattle.body_rules.specs.Methods.{IsCoded};
 ghost use Rattle.class_loader.specs.Sound.{IsSoundClass, AreBodiesOf};
 ghost use Rattle.class_loader.specs.Below.{AreBodiesBelow, AddsCode, AddsBody, AddsBodyAt};
 

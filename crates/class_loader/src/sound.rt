@@ -4,7 +4,8 @@ ghost use Rattle.byte_form.specs.Places.{IsBytes};
 ghost use Rattle.class_form.specs.ClassRules.{Spells};
 ghost use Rattle.class_form.specs.FirstFaults.{ClassFault, IsFirstFault};
 ghost use Rattle.refusal_lines.specs.Refusals.{file_refusal};
-ghost use Rattle.program_reader.specs.Readings.{IsSound, Refuses};
+ghost use Rattle.body_rules.specs.Methods.{IsSound};
+ghost use Rattle.body_rules.specs.Refused.{Refuses};
 
 use crate::code::try_bodies;
 use crate::error::ClassesError;

@@ -1,6 +1,7 @@
 // A walk that goes on until its slice was found.
-ghost use Rattle.std.specs.Prelude.{◌≡◌, ◌<◌, ◌↔◌, Ok, OnOk, Contains, length, true, false};
+ghost use Rattle.std.specs.Prelude.{◌≡◌, ◌<◌, ◌↔◌, Ok, IfOk, OnOk, Contains, length, true, false};
 ghost use Rattle.slicer_ids.specs.declared.ids.NodeId.{NodeId};
+ghost use Rattle.slicer_ids.specs.declared.ids.ExitId.{ExitId};
 ghost use Rattle.dep_form.specs.declared.facts.Facts.{Facts};
 ghost use Rattle.graph_store.specs.Store.{IsPassOf, HasInputsOf, Keeps};
 ghost use Rattle.summary_memo.specs.Memo.{facts_of, view_of, IsSeatOf};
@@ -70,7 +71,39 @@ fn advance<'s>(
     walk.go(f, &graphs, &mut rows, mode)
 }
 
-// Sees to it that the seat knows the row of an exit.
+// The exits that the walk comes to next and whose rows the seat doesn't know.
+fn ahead<'s>(
+    alloc: Global,
+    f: &Facts,
+    store: &'s GraphStore,
+    pass: &GraphPass<'s>,
+    memo: &Memo,
+    seat: &mut MemoSeat,
+    walk: &Walk,
+    mode: Mode,
+) -> Result<Vec<ExitId>, NoMemory>
+    requires pass { IsPassOf store.now.cells.items pass.now }
+    requires inputs { HasInputsOf f.now pass.now }
+    requires seat { IsSeatOf memo.now seat.old }
+    requires facts { facts_of memo.now ≡ f.now }
+    requires walk { IsWalkOf f.now walk.now }
+    ensures seat { IsSeatOf memo.now seat.new }
+    ensures knows { Knows (view_of seat.old) (view_of seat.new) }
+    ensures exits { IfOk result (λ v. (d : ExitId) → Contains v.items d → d.0 < length f.now.exits) }
+{
+    let graphs = PassView {
+        facts: f,
+        store,
+        pass,
+    };
+    let mut rows = SeatView { memo, seat };
+    let mut exits = Vec::new(alloc);
+    walk.ahead(f, &graphs, &mut rows, mode, &mut exits)?;
+    Ok(exits)
+}
+
+// Sees to it that the seat knows the row of an exit. Where it has to be made, those of exits that the walk comes to next are made
+// with it: one by one they would cost as much each.
 fn fetch_row<'s, L: Ledger>(
     alloc: Global,
     f: &Facts,
@@ -78,6 +111,7 @@ fn fetch_row<'s, L: Ledger>(
     pass: &mut GraphPass<'s>,
     memo: &Memo,
     seat: &mut MemoSeat,
+    walk: &Walk,
     mode: Mode,
     steps: &mut Steps<L>,
     e: ExitId,
@@ -86,6 +120,7 @@ fn fetch_row<'s, L: Ledger>(
     requires inputs { HasInputsOf f.now pass.old }
     requires seat { IsSeatOf memo.now seat.old }
     requires facts { facts_of memo.now ≡ f.now }
+    requires walk { IsWalkOf f.now walk.now }
     requires exit { e.0 < length f.now.exits }
     ensures pass { IsPassOf store.now.cells.items pass.new }
     ensures inputs { HasInputsOf f.now pass.new }
@@ -94,12 +129,13 @@ fn fetch_row<'s, L: Ledger>(
     ensures knows { Knows (view_of seat.old) (view_of seat.new) }
     ensures known { OnOk result (KnowsRows f.now mode (view_of seat.new) e) }
 {
+    let more = ahead(alloc, f, store, pass, memo, seat, walk, mode)?;
     let mut graphs = PassGraphs {
         facts: f,
         store,
         pass,
     };
-    memo.row(alloc, f, &mut graphs, seat, e, mode, steps)?;
+    memo.row_with(alloc, f, &mut graphs, seat, e, &more, mode, steps)?;
     Ok(())
 }
 
@@ -111,6 +147,7 @@ fn fetch<'s, L: Ledger>(
     pass: &mut GraphPass<'s>,
     memo: &Memo,
     seat: &mut MemoSeat,
+    walk: &Walk,
     mode: Mode,
     steps: &mut Steps<L>,
     go: Go,
@@ -119,6 +156,7 @@ fn fetch<'s, L: Ledger>(
     requires inputs { HasInputsOf f.now pass.old }
     requires seat { IsSeatOf memo.now seat.old }
     requires facts { facts_of memo.now ≡ f.now }
+    requires walk { IsWalkOf f.now walk.now }
     requires named { IsNamed f.now go }
     ensures pass { IsPassOf store.now.cells.items pass.new }
     ensures inputs { HasInputsOf f.now pass.new }
@@ -131,7 +169,7 @@ fn fetch<'s, L: Ledger>(
     match go {
         Go::Finished => Ok(()),
         Go::NeedsGraph(m) => pass.fetch(store, f, m),
-        Go::NeedsRow(e) => fetch_row(alloc, f, store, pass, memo, seat, mode, steps, e),
+        Go::NeedsRow(e) => fetch_row(alloc, f, store, pass, memo, seat, walk, mode, steps, e),
     }
 }
 
@@ -173,12 +211,13 @@ fn step<'s, L: Ledger>(
     if !names(go) {
         return Ok(false);
     }
-    fetch(alloc, f, store, pass, memo, seat, mode, steps, go)?;
+    fetch(alloc, f, store, pass, memo, seat, walk, mode, steps, go)?;
     Ok(true)
 }
 
 /// Goes on from a start until the slice was found, and fetches each graph and row that it needs and that the session hasn't: a graph
-/// from the method's cell or its input, a row from the shared words or by tabulation (after Horwitz, Reps and Binkley, TOPLAS 1990).
+/// from the method's cell or its input, a row from the shared words or by tabulation (after Horwitz, Reps and Binkley, TOPLAS 1990), with the
+/// rows of the exits that it comes to next.
 /// Where the session has all that the slice needs, the call takes no memory and no turn, and answers Ok; where it knows the rows alone,
 /// the call takes no turn. What the session had it has after want of memory too.
 pub fn walk_on<'s, L: Ledger>(

@@ -1,5 +1,5 @@
 -- What a seat knows it keeps.
-use Rattle.std.proofs.Common.{List, zero, suc, eqb, ne_eqb, not, true≢false, ⊎_elim, arith, ◌≡◌, ◌≢◌, ℕ, [], ◌∷◌, ◌++◌, sym, ap, ◌∙◌, subst}
+use Rattle.std.proofs.Common.{List, zero, suc, eqb, ne_eqb, not, true≢false, ⊎_elim, inl, inr, arith, ◌≡◌, ◌≢◌, ℕ, [], ◌∷◌, ◌++◌, sym, ap, ◌∙◌, subst}
 use Rattle.std.specs.Prelude.{Contains, IsTrue, ◌↔◌, slice_index, length, ◌<◌, ◌+◌, ◌*◌, ◌/◌, ◌%◌}
 use Rattle.std.proofs.lemmas.List.Elements.{Contains-append_left, Contains-append_right, Contains-push, Contains-push_cases}
 use mathlib.Core.Logic.{dite}
@@ -8,9 +8,10 @@ use Rattle.slicer_ids.specs.declared.ids.ExitId.{ExitId}
 use Rattle.slicer_ids.specs.declared.ids.Mode.{Mode}
 use Rattle.dep_form.specs.declared.facts.Facts.{Facts}
 use Rattle.dep_form.specs.Summaries.{Summary, IsRow}
+use Rattle.tabulate.specs.declared.table.Table.{Table}
 use Rattle.summary_memo.specs.declared.view.View.{View}
 use Rattle.summary_memo.specs.Places.{gate_of, data_of}
-use Rattle.summary_memo.specs.Rule.{KnowsShut, KnowsAll, Knows, LooksOnce, both}
+use Rattle.summary_memo.specs.Rule.{KnowsShut, KnowsAll, Knows, LooksOnce, AreThere, both}
 use Rattle.summary_memo.proofs.Widths.{within_width}
 
 pub more_bits : (v w : View) (x : ℕ × ℕ) → w ≡ record v { bits = v.bits ++ x ∷ [] } → Knows v w
@@ -51,6 +52,10 @@ knows_all u v w a b = record { about = b.about ∙ a.about; bits = λ x c. b.bit
 
 pub still_shut : (v w : View) (f : Facts) (e : ExitId) (mode : Mode) → Knows v w → KnowsShut v f e mode → KnowsShut w f e mode
 still_shut v w f e mode k h = (h.0, k.gates (gate_of f e mode, h.0) h.1, h.2)
+
+-- what is known of exits stays known
+pub still_there : (v w : View) (f : Facts) (mode : Mode) (exits : List ExitId) (t : Table) → Knows v w → AreThere v f mode exits t → AreThere w f mode exits t
+still_there v w f mode exits t more a = record { each = λ d k. elim (a.each d k) [ inl own ↦ inl own | inr shut ↦ inr (still_shut v w f d mode more shut) ] }
 
 nonzero_true : (n : ℕ) → n ≢ 0 → IsTrue (not (eqb n 0))
 nonzero_true n ne = ap not (ne_eqb n 0 ne)

@@ -1,5 +1,5 @@
 -- What a seat knows, the rule of the words and of all that seats know, and what each step tells.
-use Rattle.std.specs.Prelude.{◌≡◌, ◌≢◌, ◌+◌, ◌*◌, ◌/◌, ◌%◌, ◌<◌, ℕ, suc, List, [], ◌∷◌, ◌++◌, Contains, length, slice_index, Some, None}
+use Rattle.std.specs.Prelude.{◌≡◌, ◌≢◌, ◌⊎◌, ◌+◌, ◌*◌, ◌/◌, ◌%◌, ◌<◌, ℕ, suc, List, [], ◌∷◌, ◌++◌, Contains, length, slice_index, Some, None}
 use Rattle.std.specs.Int.{bit_at}
 use mathlib.Core.Option.{some}
 use lib.ListN.{get_elem?}
@@ -9,6 +9,8 @@ use Rattle.slicer_ids.specs.declared.ids.Mode.{Mode}
 use Rattle.dep_form.specs.declared.facts.Facts.{Facts}
 use Rattle.dep_form.specs.Summaries.{Summary, IsMask}
 use Rattle.summary_memo.specs.declared.view.View.{View}
+use Rattle.tabulate.specs.declared.table.Table.{Table}
+use Rattle.tabulate.specs.Tables.{HasExit}
 use Rattle.summary_memo.specs.Places.{gate_of, data_of, width, memo_words}
 
 -- the first seat knows which facts the rows are of
@@ -88,3 +90,7 @@ Offered st m found n = n ≡ (record m.0 { bits = m.0.bits ++ (st.word, st.first
 -- a gate was shut
 abbrev pub Shutted : Step (Unit {0}) → Sat → ℕ → Sat → Type 0
 Shutted st m found n = n ≡ (record m.0 { gates = m.0.gates ++ (st.word, 1) ∷ [] }, m.1)
+
+-- each of these exits has a row in the table, or the view knows its row shut
+pub record AreThere (v : View) (f : Facts) (mode : Mode) (exits : List ExitId) (t : Table) : Type 0 where
+  pub each : (d : ExitId) → Contains exits d → HasExit t d ⊎ KnowsShut v f d mode

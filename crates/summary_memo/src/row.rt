@@ -3,8 +3,8 @@ ghost use Rattle.std.specs.Prelude.{◌≡◌, ◌<◌, ℕ, List, Ok, IfOk, OnO
 ghost use Rattle.slicer_ids.specs.declared.ids.ExitId.{ExitId};
 ghost use Rattle.dep_form.specs.Summaries.{IsRow};
 ghost use Rattle.tabulate.specs.Tables.{HasExit};
-ghost use Rattle.summary_memo.specs.Rule.{KnowsShut, Knows, FoundOpen};
-ghost use Rattle.summary_memo.specs.declared.row.How.TheVariants.{Found};
+ghost use Rattle.summary_memo.specs.Rule.{KnowsShut, Knows, FoundOpen, AreThere};
+ghost use Rattle.summary_memo.specs.declared.row.How.TheVariants.{Found, Made};
 
 use crate::memo::{Memo, MemoSeat};
 use crate::rows::MemoRows;
@@ -16,7 +16,7 @@ use slicer_ids::steps::Steps;
 use std::alloc::Global;
 use std::sync::ledger::Ledger;
 use tabulate::table::Table;
-use tabulate::tabulation::tabulate;
+use tabulate::tabulation::tabulate_with;
 
 /// How a call came to a row that is shut.
 #[derive(Clone, Copy, PartialEq, Eq, Debug, Drop)]
@@ -31,8 +31,42 @@ impl Memo {
     ghost use Rattle.summary_memo.specs.Memo.{facts_of, view_of, IsSeatOf};
 
     /// Sees to it that the row of an exit is shut, and the seat knows it. Where a look finds it open, its table is made over the rows
-    /// that are shut, and all rows of the table are filled and shut. No lock is taken: threads may make one row at once, with the same
-    /// bits. Where it is found shut the call takes one load, no memory and no turn.
+    /// that are shut, with more exits at once, and all rows of the table are filled and shut: many rows of one method cost little more
+    /// so than one. No lock is taken: threads may make one row at once, with the same bits. Where it is found shut the call takes one
+    /// load, no memory and no turn, and looks at no other row.
+    pub fn row_with<G: Graphs, L: Ledger>(
+        &self,
+        alloc: Global,
+        f: &Facts,
+        graphs: &mut G,
+        seat: &mut MemoSeat,
+        e: ExitId,
+        more: &[ExitId],
+        mode: Mode,
+        steps: &mut Steps<L>,
+    ) -> Result<How, NoMemory>
+        requires seat { IsSeatOf self.now seat.old }
+        requires facts { facts_of self.now ≡ f.now }
+        requires graphs { G.sound graphs.old × (G.facts graphs.old ≡ f.now) }
+        requires exit { e.0 < length f.now.exits }
+        requires exits { (d : ExitId) → Contains more.now d → d.0 < length f.now.exits }
+        ensures graphs { G.sound graphs.new × G.later graphs.old graphs.new }
+        ensures seat { IsSeatOf self.now seat.new }
+        ensures knows { Knows (view_of seat.old) (view_of seat.new) }
+        ensures shut { OnOk result (KnowsShut (view_of seat.new) f.now e mode) }
+        ensures more { result ≡ Ok Made → (d : ExitId) → Contains more.now d → KnowsShut (view_of seat.new) f.now d mode }
+        ensures known { KnowsShut (view_of seat.old) f.now e mode → result ≡ Ok Found }
+        ensures found { result ≡ Ok Found → steps.new ≡ steps.old }
+        ensures open { (result ≡ Ok Found → ⊥) → FoundOpen (view_of seat.old) f.now e mode (view_of seat.new) }
+    {
+        if self.look(seat, e, mode) {
+            return Ok(How::Found);
+        }
+        self.make(alloc, f, graphs, seat, e, more, mode, steps)?;
+        Ok(How::Made)
+    }
+
+    /// Sees to it that the row of an exit is shut, and the seat knows it: as `row_with`, with no more exits.
     pub fn row<G: Graphs, L: Ledger>(
         &self,
         alloc: Global,
@@ -55,14 +89,10 @@ impl Memo {
         ensures found { result ≡ Ok Found → steps.new ≡ steps.old }
         ensures open { (result ≡ Ok Found → ⊥) → FoundOpen (view_of seat.old) f.now e mode (view_of seat.new) }
     {
-        if self.look(seat, e, mode) {
-            return Ok(How::Found);
-        }
-        self.make(alloc, f, graphs, seat, e, mode, steps)?;
-        Ok(How::Made)
+        self.row_with(alloc, f, graphs, seat, e, &[], mode, steps)
     }
 
-    // Makes the table of an exit, and fills and shuts its rows.
+    // Makes the table of an exit and of more, and fills and shuts its rows.
     fn make<G: Graphs, L: Ledger>(
         &self,
         alloc: Global,
@@ -70,6 +100,7 @@ impl Memo {
         graphs: &mut G,
         seat: &mut MemoSeat,
         e: ExitId,
+        more: &[ExitId],
         mode: Mode,
         steps: &mut Steps<L>,
     ) -> Result<(), NoMemory>
@@ -77,17 +108,19 @@ impl Memo {
         requires facts { facts_of self.now ≡ f.now }
         requires graphs { G.sound graphs.old × (G.facts graphs.old ≡ f.now) }
         requires exit { e.0 < length f.now.exits }
+        requires exits { (d : ExitId) → Contains more.now d → d.0 < length f.now.exits }
         ensures graphs { G.sound graphs.new × G.later graphs.old graphs.new }
         ensures seat { IsSeatOf self.now seat.new }
         ensures knows { Knows (view_of seat.old) (view_of seat.new) }
         ensures shut { OnOk result (KnowsShut (view_of seat.new) f.now e mode) }
+        ensures more { OnOk result ((d : ExitId) → Contains more.now d → KnowsShut (view_of seat.new) f.now d mode) }
     {
-        let table = self.table(alloc, f, graphs, seat, e, mode, steps)?;
+        let table = self.table(alloc, f, graphs, seat, e, more, mode, steps)?;
         self.fill_all(seat, mode, table.rows.items());
         Ok(())
     }
 
-    // The table of an exit, over the rows that the seat finds shut.
+    // The table of an exit and of more, over the rows that the seat finds shut.
     fn table<G: Graphs, L: Ledger>(
         &self,
         alloc: Global,
@@ -95,6 +128,7 @@ impl Memo {
         graphs: &mut G,
         seat: &mut MemoSeat,
         e: ExitId,
+        more: &[ExitId],
         mode: Mode,
         steps: &mut Steps<L>,
     ) -> Result<Table, NoMemory>
@@ -102,10 +136,12 @@ impl Memo {
         requires facts { facts_of self.now ≡ f.now }
         requires graphs { G.sound graphs.old × (G.facts graphs.old ≡ f.now) }
         requires exit { e.0 < length f.now.exits }
+        requires exits { (d : ExitId) → Contains more.now d → d.0 < length f.now.exits }
         ensures graphs { G.sound graphs.new × G.later graphs.old graphs.new }
         ensures seat { IsSeatOf self.now seat.new }
         ensures knows { Knows (view_of seat.old) (view_of seat.new) }
         ensures own { IfOk result (λ t. HasExit t e) }
+        ensures more { IfOk result (AreThere (view_of seat.new) f.now mode more.now) }
         ensures rows { IfOk result (λ t. (d : ExitId) (row : List ℕ) → Contains t.rows (d, row) → IsRow f.now mode d row) }
     {
         let buffer = Vec::from_elem(alloc, 0u64, self.longest())?;
@@ -114,7 +150,7 @@ impl Memo {
             seat,
             buffer,
         };
-        let table = tabulate(alloc, f, graphs, &mut rows, e, mode, steps);
+        let table = tabulate_with(alloc, f, graphs, &mut rows, e, more, mode, steps);
         let _seat = rows.into_seat();
         table
     }

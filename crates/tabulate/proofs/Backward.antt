@@ -96,11 +96,11 @@ module _ (p : Facts) where
     }
 
     -- the exit of a return into a node with a pair is demanded
-    pub demands_back : (e : ExitId) (asked : List ExitId) (n : NodeId) (x : ℕ) (d : ExitId) (r : Edge) → IsGood p mode asked (n.0, x) → IsEdge p.inputs r → r.to ≡ n → IsReturnFrom p d r → Demands p mode e (Contains asked) d
+    pub demands_back : (e : ExitId → Type 0) (asked : List ExitId) (n : NodeId) (x : ℕ) (d : ExitId) (r : Edge) → IsGood p mode asked (n.0, x) → IsEdge p.inputs r → r.to ≡ n → IsReturnFrom p d r → Demands p mode e (Contains asked) d
     demands_back e asked n x d r g is to from =
         inr (r.from, n, from.1, g.to, from.0, to_return p mode r.from n from.1 (labelled p r (Return from.1) n from.2 to is), (g.was_asked, g.end, g.exit, path_of p mode n g.end (g.level n refl)))
 
-    module _ (e : ExitId) (Has : ExitId → Type 0) (ms : List (Option Method)) (h : Hands) (asked : List ExitId) (ts : List Found) (q : List NodeId) (s : Holds p mode e Has ms h asked ts q) where
+    module _ (e : ExitId → Type 0) (Has : ExitId → Type 0) (ms : List (Option Method)) (h : Hands) (asked : List ExitId) (ts : List Found) (q : List NodeId) (s : Holds p mode e Has ms h asked ts q) where
       pub holds_next : (ts' : List Found) (q' : List NodeId) (n : NodeId) (delta : List ℕ) → IsNext p ts ts' q q' n delta → Holds p mode e Has ms h asked ts' q'
       holds_next ts' q' n delta x = record {
         found = x.found;
@@ -154,7 +154,7 @@ module _ (p : Facts) where
       }
 
     -- one node: first the exits that it demands are met, then its new bits are followed
-    module _ (e : ExitId) (Had Has : ExitId → Type 0) (ms ms' : List (Option Method)) (h h' : Hands) (asked asked' : List ExitId) (ts ts' ts'' : List Found) (q q' q'' : List NodeId) (st st' st'' : ℕ) (n : NodeId) (delta : List ℕ) (edges : List Edge) (exits : List ExitId)
+    module _ (e : ExitId → Type 0) (Had Has : ExitId → Type 0) (ms ms' : List (Option Method)) (h h' : Hands) (asked asked' : List ExitId) (ts ts' ts'' : List Found) (q q' q'' : List NodeId) (st st' st'' : ℕ) (n : NodeId) (delta : List ℕ) (edges : List Edge) (exits : List ExitId)
         (s : Holds p mode e Had ms h asked ts q) (d : IsDone p mode h (Got p ts) (Open (Todo p ts) (OfNode n delta))) (taken : IsTakenUp p ts n delta) (some : (x : ℕ) × IsIn delta x)
         (edges_are : (r : Edge) → Contains edges r ↔ (IsEdge p.inputs r × (r.to ≡ n))) (exits_are : (k : ExitId) → Contains exits k ↔ ((r : Edge) × Contains edges r × IsReturnFrom p k r)) where
       new_good : (x : ℕ) → IsIn delta x → IsGood p mode asked (n.0, x)

@@ -55,7 +55,7 @@ module _ (p : Facts) where
         same from e = ap (λ (n : ℕ). record { 0 = n }) e
 
     -- the methods, and what the rows surely have, grow
-    module _ (e : ExitId) (Has Has' : ExitId → Type 0) (has : (d : ExitId) → Has d → Has' d) (ms ms' : List (Option Method)) (are : AreMethods p ms') (kept : (k : ℕ) (x : Method) → IsMetAs ms k x → IsMetAs ms' k x) (h : Hands) (asked : List ExitId) (ts : List Found) (queue : List NodeId) (s : Holds p mode e Has ms h asked ts queue) where
+    module _ (e : ExitId → Type 0) (Has Has' : ExitId → Type 0) (has : (d : ExitId) → Has d → Has' d) (ms ms' : List (Option Method)) (are : AreMethods p ms') (kept : (k : ℕ) (x : Method) → IsMetAs ms k x → IsMetAs ms' k x) (h : Hands) (asked : List ExitId) (ts : List Found) (queue : List NodeId) (s : Holds p mode e Has ms h asked ts queue) where
       pub holds_on : Holds p mode e Has' ms' h asked ts queue
       holds_on = record {
         found = s.found;
@@ -69,7 +69,7 @@ module _ (p : Facts) where
       }
 
     -- a row came to hand
-    module _ (e : ExitId) (Has : ExitId → Type 0) (ms : List (Option Method)) (h h' : Hands) (asked : List ExitId) (ts : List Found) (queue : List NodeId) (s : Holds p mode e Has ms h asked ts queue)
+    module _ (e : ExitId → Type 0) (Has : ExitId → Type 0) (ms : List (Option Method)) (h h' : Hands) (asked : List ExitId) (ts : List Found) (queue : List NodeId) (s : Holds p mode e Has ms h asked ts queue)
         (d : ExitId) (x : NodeId) (at : IsExitAt p d x) (met : IsMet ms (method_of p x.0)) (bits : List ℕ) (put : IsPut h h' d.0 bits) (row : IsRow p mode d bits) (sure : Has d) (not_asked : Contains asked d → ⊥) (no_hand : hand_of h d.0 ≡ None) where
       same_exit : (c : ExitId) → c.0 ≡ d.0 → c ≡ d
       same_exit c e = ap (λ (n : ℕ). record { 0 = n }) e
@@ -117,7 +117,7 @@ module _ (p : Facts) where
           apart b e = absurd cc
 
     -- an exit was asked for
-    module _ (e : ExitId) (Has : ExitId → Type 0) (ms : List (Option Method)) (h : Hands) (asked : List ExitId) (ts ts' : List Found) (queue queue' : List NodeId) (st st' : ℕ) (s : Holds p mode e Has ms h asked ts queue)
+    module _ (e : ExitId → Type 0) (Has : ExitId → Type 0) (ms : List (Option Method)) (h : Hands) (asked : List ExitId) (ts ts' : List Found) (queue queue' : List NodeId) (st st' : ℕ) (s : Holds p mode e Has ms h asked ts queue)
         (d : ExitId) (x : NodeId) (at : IsExitAt p d x) (met : IsMet ms (method_of p x.0)) (low : d.0 < length p.exits) (demanded : Demands p mode e (Contains asked) d) (not_asked : Contains asked d → ⊥) (no_hand : hand_of h d.0 ≡ None)
         (step : IsAskStep p d ts ts' queue queue' st st') (lens : (m : ℕ) → (m ≡ method_of p x.0 → ⊥) → length (waits_of ts' m) ≡ length (waits_of ts m)) where
       abbrev asked' : List ExitId
@@ -188,7 +188,7 @@ module _ (p : Facts) where
         let place : d.0 ≡ g.to.0 = sym (exit_place p d x at) ∙ ap (exits_before p) same ∙ exit_place p g.to g.end g.exit in
         subst (λ (y : ExitId). Contains asked y) (ap (λ (n : ℕ). record { 0 = n }) (sym place)) g.was_asked
 
-    module _ (e : ExitId) (Had Has : ExitId → Type 0) (ms : List (Option Method)) (h : Hands) (asked : List ExitId) (ts : List Found) (queue : List NodeId) (st : ℕ) where
+    module _ (e : ExitId → Type 0) (Had Has : ExitId → Type 0) (ms : List (Option Method)) (h : Hands) (asked : List ExitId) (ts : List Found) (queue : List NodeId) (st : ℕ) where
       -- nothing changed
       pub step_none : (First : ExitId → Type 0) → Holds p mode e Has ms h asked ts queue → ((d : ExitId) → First d → IsKnown h asked d) → MeetStep p mode e Had Has First ms h h asked asked ts ts queue queue st st
       step_none First s known = record { holds = s; meets = meets_none h asked ts s.begun; known = known; wanting = λ d c. inl c; work = omega arith }
@@ -217,7 +217,7 @@ module _ (p : Facts) where
       }
 
     -- one step after another
-    pub step_then : (e : ExitId) (Had Had1 Has1 Has : ExitId → Type 0) (First Second Both : ExitId → Type 0) (ms1 ms : List (Option Method)) (h h1 h2 : Hands) (asked asked1 asked2 : List ExitId) (ts ts1 ts2 : List Found) (q q1 q2 : List NodeId) (st st1 st2 : ℕ)
+    pub step_then : (e : ExitId → Type 0) (Had Had1 Has1 Has : ExitId → Type 0) (First Second Both : ExitId → Type 0) (ms1 ms : List (Option Method)) (h h1 h2 : Hands) (asked asked1 asked2 : List ExitId) (ts ts1 ts2 : List Found) (q q1 q2 : List NodeId) (st st1 st2 : ℕ)
         → ((d : ExitId) → Had d → Had1 d) → ((d : ExitId) → Both d → First d ⊎ Second d)
         → MeetStep p mode e Had Has1 First ms1 h h1 asked asked1 ts ts1 q q1 st st1 → MeetStep p mode e Had1 Has Second ms h1 h2 asked1 asked2 ts1 ts2 q1 q2 st1 st2 → MeetStep p mode e Had Has Both ms h h2 asked asked2 ts ts2 q q2 st st2
     step_then e Had Had1 Has1 Has First Second Both ms1 ms h h1 h2 asked asked1 asked2 ts ts1 ts2 q q1 q2 st st1 st2 had cases a b = record {
@@ -241,6 +241,6 @@ pub if_ok : {A B : Type 0} (P : A → Type 0) (r : Result A B) (x : A) → r ≡
 if_ok {A} {B} P r x e h = subst (λ (y : Result A B). IfOk y P) e h
 
 -- what some exits demand, more exits demand
-pub demands_more : (p : Facts) (mode : Mode) (e : ExitId) (asked asked' : List ExitId) → ((d : ExitId) → Contains asked d → Contains asked' d) → (d : ExitId) → Demands p mode e (Contains asked) d → Demands p mode e (Contains asked') d
+pub demands_more : (p : Facts) (mode : Mode) (e : ExitId → Type 0) (asked asked' : List ExitId) → ((d : ExitId) → Contains asked d → Contains asked' d) → (d : ExitId) → Demands p mode e (Contains asked) d → Demands p mode e (Contains asked') d
 demands_more p mode e asked asked' more d (inl is) = inl is
 demands_more p mode e asked asked' more d (inr m) = inr (m.0, m.1, m.2, m.3, m.4, m.5, (more m.3 m.6.0, m.6.1, m.6.2, m.6.3))

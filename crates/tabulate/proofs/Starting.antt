@@ -21,7 +21,7 @@ no_method ms none m x is = apart (sym (get_or_from_slice_get ms m (Some x) None 
     apart e = absurd cc
 
 module _ (p : Facts) (mode : Mode) (ts : List Found) (blank : All IsBlank ts) where
-  pub holds_start : (e : ExitId) (ms : List (Option Method)) (h : Hands) → length ms ≡ length p.inputs → All (λ (o : Option Method). o ≡ None) ms → ((k : ℕ) → hand_of h k ≡ None) → length ts ≡ length p.inputs → Holds p mode e (λ _. ⊥) ms h [] ts []
+  pub holds_start : (e : ExitId → Type 0) (ms : List (Option Method)) (h : Hands) → length ms ≡ length p.inputs → All (λ (o : Option Method). o ≡ None) ms → ((k : ℕ) → hand_of h k ≡ None) → length ts ≡ length p.inputs → Holds p mode e (λ _. ⊥) ms h [] ts []
   holds_start e ms h len none empty tables = record {
     found = blank_tables p ts blank tables;
     in_queue = blank_queue p ts blank;
@@ -39,6 +39,6 @@ module _ (p : Facts) (mode : Mode) (ts : List Found) (blank : All IsBlank ts) wh
           apart : None ≡ Some bits → ⊥
           apart k = absurd cc
 
-  -- after the first exit was asked for, all that was found waits
-  pub done_start : (h : Hands) (asked asked' : List ExitId) (ts' : List Found) → Meets p h h asked asked' ts ts' → IsDone p mode h (Got p ts') (Todo p ts')
-  done_start h asked asked' ts' m = done_waiting p mode h (Got p ts') (Todo p ts') (λ q g. elim (m.adds.fresh q g) [ inl o ↦ absurd (nothing p ts blank q o) | inr w ↦ w ]) (λ q t. elim (m.adds.within q t) [ inl o ↦ absurd (nothing_waits p ts blank q o) | inr u ↦ u.0 ])
+  -- after the first exits were asked for, all that was found waits
+  pub done_start : (h h' : Hands) (asked asked' : List ExitId) (ts' : List Found) → Meets p h h' asked asked' ts ts' → IsDone p mode h' (Got p ts') (Todo p ts')
+  done_start h h' asked asked' ts' m = done_waiting p mode h' (Got p ts') (Todo p ts') (λ q g. elim (m.adds.fresh q g) [ inl o ↦ absurd (nothing p ts blank q o) | inr w ↦ w ]) (λ q t. elim (m.adds.within q t) [ inl o ↦ absurd (nothing_waits p ts blank q o) | inr u ↦ u.0 ])

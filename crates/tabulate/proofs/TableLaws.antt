@@ -30,7 +30,7 @@ use Rattle.tabulate.specs.declared.table.Table.{Table}
 use Rattle.tabulate.specs.Frames.{node, method_of, number_of, first_exit}
 use Rattle.tabulate.specs.Found.{Got, Todo, total}
 use Rattle.tabulate.specs.Hands.{hand_of}
-use Rattle.tabulate.specs.Tables.{exits_of, HasExit, IsTable, IsCounted}
+use Rattle.tabulate.specs.Tables.{exits_of, HasExit, IsFirst, IsTable, IsTableFrom, IsCounted}
 use Rattle.tabulate.specs.States.{IsDone, Holds, Demands, AreWanting, IsRowFound, IsWordFound}
 use Rattle.tabulate.proofs.Placing.{exit_place, behind_first, of_input}
 use Rattle.tabulate.proofs.Fitting.{of_node, formals_below}
@@ -63,7 +63,7 @@ formal_below (x ∷ xs) (suc k) none first lt = formal_below xs k none (λ i j d
     at_most true = omega arith
     at_most false = omega arith
 
-module _ (p : Facts) (mode : Mode) (e : ExitId) (Has : ExitId → Type 0) (ms : List (Option Method)) (h : Hands) (asked : List ExitId) (ts : List Found) (s : Holds p mode e Has ms h asked ts []) (d : IsDone p mode h (Got p ts) (Todo p ts)) where
+module _ (p : Facts) (mode : Mode) (First : ExitId → Type 0) (Has : ExitId → Type 0) (ms : List (Option Method)) (h : Hands) (asked : List ExitId) (ts : List Found) (s : Holds p mode First Has ms h asked ts []) (d : IsDone p mode h (Got p ts) (Todo p ts)) where
   idle : (q : ℕ × ℕ) → Todo p ts q → ⊥
   idle q w = let c = s.in_queue.queued q.0 w.0 (s.found.waiting q w) in omega (arith, c.1)
 
@@ -113,7 +113,7 @@ module _ (p : Facts) (mode : Mode) (e : ExitId) (Has : ExitId → Type 0) (ms : 
     row_is : IsRow p mode k bits
     row_is = record { size = r.size; masks = λ j lt b low. (to_summary j b lt low, from_summary j b lt low) }
 
-  module _ (Had : ExitId → Type 0) (want : AreWanting Had (e ∷ []) asked) (own : Contains asked e) (t : Table) (exit_is : t.exit ≡ e) (mode_is : t.mode ≡ mode) (exits_are : exits_of t ≡ asked) (rows : (k : ExitId) (row : List ℕ) → Contains t.rows (k, row) → IsRowFound p ts k row) where
+  module _ (e : ExitId) (Had : ExitId → Type 0) (want : AreWanting Had (e ∷ []) asked) (own : Contains asked e) (firsts : (k : ExitId) → First k → Contains asked k ⊎ Has k) (t : Table) (exit_is : t.exit ≡ e) (mode_is : t.mode ≡ mode) (exits_are : exits_of t ≡ asked) (rows : (k : ExitId) (row : List ℕ) → Contains t.rows (k, row) → IsRowFound p ts k row) where
     of_table : (k : ExitId) → HasExit t k → Contains asked k
     of_table k c = subst (λ (ys : List ExitId). Contains ys k) exits_are c
 
@@ -123,7 +123,7 @@ module _ (p : Facts) (mode : Mode) (e : ExitId) (Has : ExitId → Type 0) (ms : 
     of_row : (k : ExitId) (row : List ℕ) → Contains t.rows (k, row) → HasExit t k
     of_row k row c = (c.0, omega (arith, c.1, length-map t.rows (λ (y : ExitId × List ℕ). y.0)), get_or-map (λ (y : ExitId × List ℕ). y.0) t.rows c.0 (k, row) k c.1 ∙ ap (λ (y : ExitId × List ℕ). y.0) c.2)
 
-    with_exits : (ks : List ExitId) → ((k : ExitId) → Contains ks k → HasExit t k) → IsDerivation (Demands p mode e) ks → IsDerivation (λ K k. HasExit t k × Demands p mode e K k) ks
+    with_exits : (ks : List ExitId) → ((k : ExitId) → Contains ks k → HasExit t k) → IsDerivation (Demands p mode First) ks → IsDerivation (λ K k. HasExit t k × Demands p mode First K k) ks
     with_exits [] each x = tt
     with_exits (k ∷ ks) each x = ((each k (here k ks), x.0), with_exits ks (λ j c. each j (later k j ks c)) x.1)
 
@@ -138,13 +138,14 @@ module _ (p : Facts) (mode : Mode) (e : ExitId) (Has : ExitId → Type 0) (ms : 
           ]
         ]
 
-    pub is_table : IsTable p mode e Had Has t
+    pub is_table : IsTableFrom p mode e First Had Has t
     is_table = record {
       exit = exit_is;
       mode_is = mode_is;
       own = to_table e own;
       once = subst (AllPairs (λ (a b : ExitId). a ≢ b)) (sym exits_are) s.exits.once;
       rows = λ k row c. row_is k row (of_table k (of_row k row c)) (rows k row c);
+      firsts = λ k is. elim (firsts k is) [ inl c ↦ inl (to_table k c) | inr has ↦ inr has ];
       whole = found_or_to_hand;
       least = λ k c. (
         reverse asked,
@@ -172,3 +173,26 @@ module _ (p : Facts) (mode : Mode) (e : ExitId) (Has : ExitId → Type 0) (ms : 
 
     pub is_counted : (before after : ℕ) → after ≡ before + total ts → IsCounted p mode before after t
     is_counted before after turns = (total ts, size_all p ts s.found R found_each found_whole, turns)
+
+-- where no other exit comes first, the table is that of the exit
+module _ (f : Facts) (mode : Mode) (e : ExitId) (t : Table) where
+  alone : (d : ExitId) → IsFirst e [] d → d ≡ e
+  alone d (inl is) = is
+  alone d (inr c) = absurd (omega (arith, c.1))
+
+  asked_alone : (ks : List ExitId) → IsDerivation (λ K d. HasExit t d × (IsFirst e [] d ⊎ IsDemanded f (ModeEdges f.inputs mode) K d)) ks → IsDerivation (λ K d. HasExit t d × ((d ≡ e) ⊎ IsDemanded f (ModeEdges f.inputs mode) K d)) ks
+  asked_alone [] x = tt
+  asked_alone (k ∷ ks) x = ((x.0.0, elim x.0.1 [ inl is ↦ inl (alone k is) | inr m ↦ inr m ]), asked_alone ks x.1)
+
+  pub table_alone : (Had Has : ExitId → Type 0) → IsTableFrom f mode e (IsFirst e []) Had Has t → IsTable f mode e Had Has t
+  table_alone Had Has a = record {
+    exit = a.exit;
+    mode_is = a.mode_is;
+    own = a.own;
+    once = a.once;
+    rows = a.rows;
+    firsts = λ d is. a.firsts d (inl is);
+    whole = a.whole;
+    least = λ d c. let h = a.least d c in (h.0, asked_alone h.0 h.1, h.2);
+    wanting = a.wanting;
+  }

@@ -49,14 +49,14 @@ pub record IsDone (p : Facts) (mode : Mode) (h : Hands) (got todo : ℕ × ℕ �
   pub hands : (n a g e : NodeId) (x : ℕ) (k : CallId) (bits : List ℕ) → got (n.0, x) → hand_at p h e ≡ Some bits → IsIn bits (row p g.0) → IsEdge p.inputs (edge e (Return k) n)
       → IsEdge p.inputs (edge a (Call k) g) → method_of p g.0 ≡ method_of p e.0 → todo (n.0, x) ⊎ got (a.0, x)
 
--- an exit that others demand, or the one whose table is made
-abbrev pub Demands : Facts → Mode → ExitId → (ExitId → Type 0) → ExitId → Type 0
-Demands p mode e K d = (d ≡ e) ⊎ IsDemanded p (ModeEdges p.inputs mode) K d
+-- an exit that others demand, or one of the first
+abbrev pub Demands : Facts → Mode → (ExitId → Type 0) → (ExitId → Type 0) → ExitId → Type 0
+Demands p mode First K d = First d ⊎ IsDemanded p (ModeEdges p.inputs mode) K d
 
 -- the exits that were asked for
-pub record AreAsked (p : Facts) (mode : Mode) (e : ExitId) (h : Hands) (asked : List ExitId) : Type 0 where
+pub record AreAsked (p : Facts) (mode : Mode) (First : ExitId → Type 0) (h : Hands) (asked : List ExitId) : Type 0 where
   pub once : AllPairs (λ (a b : ExitId). a ≢ b) asked
-  pub derived : IsDerivation (Demands p mode e) (reverse asked)
+  pub derived : IsDerivation (Demands p mode First) (reverse asked)
   pub apart : (d : ExitId) → Contains asked d → hand_of h d.0 ≡ None
   pub exits : (d : ExitId) → Contains asked d → d.0 < length p.exits
 
@@ -67,12 +67,12 @@ pub record AreHands (p : Facts) (mode : Mode) (Has : ExitId → Type 0) (ms : Li
   pub met : (d : ExitId) (x : NodeId) (bits : List ℕ) → hand_of h d.0 ≡ Some bits → IsExitAt p d x → IsMet ms (method_of p x.0)
 
 -- what holds of the methods that were met, the rows to hand, the exits that were asked for and what was found
-pub record Holds (p : Facts) (mode : Mode) (e : ExitId) (Has : ExitId → Type 0) (ms : List (Option Method)) (h : Hands) (asked : List ExitId) (ts : List Found) (queue : List NodeId) : Type 0 where
+pub record Holds (p : Facts) (mode : Mode) (First : ExitId → Type 0) (Has : ExitId → Type 0) (ms : List (Option Method)) (h : Hands) (asked : List ExitId) (ts : List Found) (queue : List NodeId) : Type 0 where
   pub found : AreFound p ts
   pub in_queue : IsQueue p ts queue
   pub methods : AreMethods p ms
   pub met : (m : ℕ) → 0 < length (waits_of ts m) → IsMet ms m
-  pub exits : AreAsked p mode e h asked
+  pub exits : AreAsked p mode First h asked
   pub begun : (d : ExitId) (x : NodeId) → Contains asked d → IsExitAt p d x → Got p ts (x.0, number_of p x.0)
   pub hands : AreHands p mode Has ms h
   pub good : (q : ℕ × ℕ) → Got p ts q → IsGood p mode asked q
@@ -136,9 +136,9 @@ pub record IsRowFound (p : Facts) (ts : List Found) (d : ExitId) (bits : List �
       → k < length bits → IsWordFound p ts i.first.0 (formal_count i) (number_of p x.0) k (slice_index bits k)
 
 -- exits were met: those of D
-pub record MeetStep (p : Facts) (mode : Mode) (e : ExitId) (Had Has D : ExitId → Type 0) (ms' : List (Option Method)) (h h' : Hands) (asked asked' : List ExitId)
+pub record MeetStep (p : Facts) (mode : Mode) (First : ExitId → Type 0) (Had Has D : ExitId → Type 0) (ms' : List (Option Method)) (h h' : Hands) (asked asked' : List ExitId)
     (ts ts' : List Found) (q q' : List NodeId) (steps steps' : ℕ) : Type 0 where
-  pub holds : Holds p mode e Has ms' h' asked' ts' q'
+  pub holds : Holds p mode First Has ms' h' asked' ts' q'
   pub meets : Meets p h h' asked asked' ts ts'
   pub known : (d : ExitId) → D d → IsKnown h' asked' d
   pub wanting : AreWanting Had asked asked'

@@ -9,6 +9,7 @@ ghost use Rattle.tabulate.specs.Frames.{number_of, IsOf};
 ghost use Rattle.tabulate.specs.Hands.{hand_of};
 ghost use Rattle.tabulate.specs.Methods.{IsMethodOf, AreMethods, IsMet, IsMetAs};
 ghost use Rattle.tabulate.specs.Found.{Got, AreFound, IsQueue, total, waits_of};
+ghost use Rattle.tabulate.specs.Tables.{IsFirst};
 ghost use Rattle.tabulate.specs.States.{Holds, Demands, IsReturnFrom, IsAskStep, Meets, MeetStep};
 
 use crate::found::{Found, ask, is_got, open};
@@ -118,6 +119,7 @@ fn meet_new<R: Rows, L: Ledger>(
     f: &Facts,
     rows: &mut R,
     e: ExitId,
+    more: &[ExitId],
     mode: Mode,
     method: &Method,
     exit: ExitId,
@@ -132,12 +134,12 @@ fn meet_new<R: Rows, L: Ledger>(
     requires method { IsMethodOf f.now method.now }
     requires exit { (x : NodeId) × IsExitAt f.now exit x × IsOf f.now x.0 method.now.id.0 }
     requires met { IsMet methods.now.items method.now.id.0 }
-    requires demanded { Demands f.now mode e (Contains asked.old.items) exit }
+    requires demanded { Demands f.now mode (IsFirst e more.now) (Contains asked.old.items) exit }
     requires no_hand { hand_of hands.old exit.0 ≡ None }
     requires not_asked { Contains asked.old.items exit → ⊥ }
-    requires holds { Holds f.now mode e (λ d. R.surely rows.old d mode) methods.now.items hands.old asked.old.items found.old.items queue.old.items }
+    requires holds { Holds f.now mode (IsFirst e more.now) (λ d. R.surely rows.old d mode) methods.now.items hands.old asked.old.items found.old.items queue.old.items }
     ensures rows { R.sound rows.new × R.later rows.old rows.new }
-    ensures step { OnOk result (MeetStep f.now mode e (λ d. R.surely rows.old d mode) (λ d. R.surely rows.new d mode) (λ d. d ≡ exit) methods.now.items hands.old hands.new asked.old.items asked.new.items found.old.items found.new.items queue.old.items queue.new.items steps.old steps.new) }
+    ensures step { OnOk result (MeetStep f.now mode (IsFirst e more.now) (λ d. R.surely rows.old d mode) (λ d. R.surely rows.new d mode) (λ d. d ≡ exit) methods.now.items hands.old hands.new asked.old.items asked.new.items found.old.items found.new.items queue.old.items queue.new.items steps.old steps.new) }
     ensures turns { steps.new + total found.old.items ≡ steps.old + total found.new.items }
 {
     match copy_hand(alloc, f, rows, exit, mode)? {
@@ -159,6 +161,7 @@ fn meet<G: Graphs, R: Rows, L: Ledger>(
     graphs: &mut G,
     rows: &mut R,
     e: ExitId,
+    more: &[ExitId],
     mode: Mode,
     exit: ExitId,
     methods: &mut Vec<Option<Method>>,
@@ -171,11 +174,11 @@ fn meet<G: Graphs, R: Rows, L: Ledger>(
     requires graphs { G.sound graphs.old × (G.facts graphs.old ≡ f.now) }
     requires rows { R.sound rows.old × (R.facts rows.old ≡ f.now) }
     requires exit { exit.0 < length f.now.exits }
-    requires demanded { Demands f.now mode e (Contains asked.old.items) exit }
-    requires holds { Holds f.now mode e (λ d. R.surely rows.old d mode) methods.old.items hands.old asked.old.items found.old.items queue.old.items }
+    requires demanded { Demands f.now mode (IsFirst e more.now) (Contains asked.old.items) exit }
+    requires holds { Holds f.now mode (IsFirst e more.now) (λ d. R.surely rows.old d mode) methods.old.items hands.old asked.old.items found.old.items queue.old.items }
     ensures graphs { G.sound graphs.new × G.later graphs.old graphs.new }
     ensures rows { R.sound rows.new × R.later rows.old rows.new }
-    ensures step { OnOk result (MeetStep f.now mode e (λ d. R.surely rows.old d mode) (λ d. R.surely rows.new d mode) (λ d. d ≡ exit) methods.new.items hands.old hands.new asked.old.items asked.new.items found.old.items found.new.items queue.old.items queue.new.items steps.old steps.new) }
+    ensures step { OnOk result (MeetStep f.now mode (IsFirst e more.now) (λ d. R.surely rows.old d mode) (λ d. R.surely rows.new d mode) (λ d. d ≡ exit) methods.new.items hands.old hands.new asked.old.items asked.new.items found.old.items found.new.items queue.old.items queue.new.items steps.old steps.new) }
     ensures turns { steps.new + total found.old.items ≡ steps.old + total found.new.items }
 {
     if hands.has(exit) {
@@ -190,7 +193,7 @@ fn meet<G: Graphs, R: Rows, L: Ledger>(
         return Ok(());
     }
     meet_new(
-        alloc, f, rows, e, mode, method, exit, methods, hands, asked, found, queue, steps,
+        alloc, f, rows, e, more, mode, method, exit, methods, hands, asked, found, queue, steps,
     )?;
     Ok(())
 }
@@ -202,6 +205,7 @@ pub fn meet_all<G: Graphs, R: Rows, L: Ledger>(
     graphs: &mut G,
     rows: &mut R,
     e: ExitId,
+    more: &[ExitId],
     mode: Mode,
     exits: &[ExitId],
     methods: &mut Vec<Option<Method>>,
@@ -213,16 +217,17 @@ pub fn meet_all<G: Graphs, R: Rows, L: Ledger>(
 ) -> Result<(), NoMemory>
     requires graphs { G.sound graphs.old × (G.facts graphs.old ≡ f.now) }
     requires rows { R.sound rows.old × (R.facts rows.old ≡ f.now) }
-    requires demanded { (d : ExitId) → Contains exits.now d → (d.0 < length f.now.exits) × Demands f.now mode e (Contains asked.old.items) d }
-    requires holds { Holds f.now mode e (λ d. R.surely rows.old d mode) methods.old.items hands.old asked.old.items found.old.items queue.old.items }
+    requires demanded { (d : ExitId) → Contains exits.now d → (d.0 < length f.now.exits) × Demands f.now mode (IsFirst e more.now) (Contains asked.old.items) d }
+    requires holds { Holds f.now mode (IsFirst e more.now) (λ d. R.surely rows.old d mode) methods.old.items hands.old asked.old.items found.old.items queue.old.items }
     ensures graphs { G.sound graphs.new × G.later graphs.old graphs.new }
     ensures rows { R.sound rows.new × R.later rows.old rows.new }
-    ensures step { OnOk result (MeetStep f.now mode e (λ d. R.surely rows.old d mode) (λ d. R.surely rows.new d mode) (Contains exits.now) methods.new.items hands.old hands.new asked.old.items asked.new.items found.old.items found.new.items queue.old.items queue.new.items steps.old steps.new) }
+    ensures step { OnOk result (MeetStep f.now mode (IsFirst e more.now) (λ d. R.surely rows.old d mode) (λ d. R.surely rows.new d mode) (Contains exits.now) methods.new.items hands.old hands.new asked.old.items asked.new.items found.old.items found.new.items queue.old.items queue.new.items steps.old steps.new) }
     ensures turns { steps.new + total found.old.items ≡ steps.old + total found.new.items }
 {
     for exit in exits {
         meet(
-            alloc, f, graphs, rows, e, mode, *exit, methods, hands, asked, found, queue, steps,
+            alloc, f, graphs, rows, e, more, mode, *exit, methods, hands, asked, found, queue,
+            steps,
         )?;
     }
     Ok(())
@@ -263,6 +268,7 @@ pub fn begin<G: Graphs, L: Ledger>(
     f: &Facts,
     graphs: &mut G,
     e: ExitId,
+    more: &[ExitId],
     mode: Mode,
     methods: &mut Vec<Option<Method>>,
     hands: &Hands,
@@ -273,10 +279,10 @@ pub fn begin<G: Graphs, L: Ledger>(
 ) -> Result<(), NoMemory>
     requires graphs { G.sound graphs.old × (G.facts graphs.old ≡ f.now) }
     requires exit { e.0 < length f.now.exits }
-    requires holds { Holds f.now mode e (λ _. ⊥) methods.old.items hands.now asked.old.items found.old.items queue.old.items }
+    requires holds { Holds f.now mode (IsFirst e more.now) (λ _. ⊥) methods.old.items hands.now asked.old.items found.old.items queue.old.items }
     requires none { asked.old.items ≡ [] }
     ensures graphs { G.sound graphs.new × G.later graphs.old graphs.new }
-    ensures holds { OnOk result (Holds f.now mode e (λ _. ⊥) methods.new.items hands.now asked.new.items found.new.items queue.new.items) }
+    ensures holds { OnOk result (Holds f.now mode (IsFirst e more.now) (λ _. ⊥) methods.new.items hands.now asked.new.items found.new.items queue.new.items) }
     ensures meets { OnOk result (Meets f.now hands.now hands.now asked.old.items asked.new.items found.old.items found.new.items) }
     ensures asked { OnOk result (asked.new.items ≡ e ∷ []) }
     ensures turns { steps.new + total found.old.items ≡ steps.old + total found.new.items }

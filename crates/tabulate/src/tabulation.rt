@@ -1,5 +1,5 @@
 // Tables of exits.
-ghost use Rattle.std.specs.Prelude.{◌≡◌, ◌↔◌, ◌<◌, ◌≤◌, ◌+◌, [], ℕ, List, Option, Some, None, IfOk, OnOk, MatchOption, All, Contains, length};
+ghost use Rattle.std.specs.Prelude.{◌≡◌, ◌↔◌, ◌⊎◌, ◌<◌, ◌≤◌, ◌+◌, ◌∷◌, [], ℕ, List, Option, Some, None, IfOk, OnOk, MatchOption, All, Contains, length};
 ghost use Rattle.dep_form.specs.declared.node.Edge.{Edge};
 ghost use Rattle.tabulate.specs.Hands.{hand_of};
 ghost use Rattle.tabulate.specs.Rules.{FromOne, Follows};
@@ -13,8 +13,8 @@ ghost use Rattle.tabulate.specs.declared.method.Method.{Method};
 ghost use Rattle.tabulate.specs.Frames.{IsOf, method_of, count, width};
 ghost use Rattle.tabulate.specs.Methods.{AreMethods, IsMet};
 ghost use Rattle.tabulate.specs.Found.{Got, Todo, IsOpen, AreFound, IsQueue, Goes, total, waits_of};
-ghost use Rattle.tabulate.specs.States.{Holds, IsDone, Open, OfNode, IsNext, IsTakenUp, AreWanting};
-ghost use Rattle.tabulate.specs.Tables.{IsTable, IsCounted};
+ghost use Rattle.tabulate.specs.States.{Holds, IsDone, Meets, Open, OfNode, IsNext, IsTakenUp, AreWanting};
+ghost use Rattle.tabulate.specs.Tables.{IsFirst, IsTable, IsTableFrom, IsCounted};
 
 use crate::following::follow;
 use crate::found::{Found, blank, take};
@@ -138,6 +138,7 @@ fn go_back<G: Graphs, R: Rows, L: Ledger>(
     graphs: &mut G,
     rows: &mut R,
     e: ExitId,
+    more: &[ExitId],
     mode: Mode,
     n: NodeId,
     delta: &[u64],
@@ -153,11 +154,11 @@ fn go_back<G: Graphs, R: Rows, L: Ledger>(
     requires rows { R.sound rows.old × (R.facts rows.old ≡ f.now) }
     requires node { (n.0 < count f.now) × IsOpen f.now found.old.items (method_of f.now n.0) }
     requires delta { (length delta.now ≡ width f.now (method_of f.now n.0)) × IsTakenUp f.now found.old.items n delta.now }
-    requires holds { Holds f.now mode e (λ d. R.surely rows.old d mode) methods.old.items hands.old asked.old.items found.old.items queue.old.items }
+    requires holds { Holds f.now mode (IsFirst e more.now) (λ d. R.surely rows.old d mode) methods.old.items hands.old asked.old.items found.old.items queue.old.items }
     requires done { IsDone f.now mode hands.old (Got f.now found.old.items) (Open (Todo f.now found.old.items) (OfNode n delta.now)) }
     ensures graphs { G.sound graphs.new × G.later graphs.old graphs.new }
     ensures rows { R.sound rows.new × R.later rows.old rows.new }
-    ensures holds { OnOk result (Holds f.now mode e (λ d. R.surely rows.new d mode) methods.new.items hands.new asked.new.items found.new.items queue.new.items) }
+    ensures holds { OnOk result (Holds f.now mode (IsFirst e more.now) (λ d. R.surely rows.new d mode) methods.new.items hands.new asked.new.items found.new.items queue.new.items) }
     ensures done { OnOk result (IsDone f.now mode hands.new (Got f.now found.new.items) (Todo f.now found.new.items)) }
     ensures more { OnOk result ((d : ExitId) → Contains asked.old.items d → Contains asked.new.items d) }
     ensures wanting { OnOk result (AreWanting (λ d. R.surely rows.old d mode) asked.old.items asked.new.items) }
@@ -176,6 +177,7 @@ fn go_back<G: Graphs, R: Rows, L: Ledger>(
         graphs,
         rows,
         e,
+        more,
         mode,
         &buffers.exits,
         methods,
@@ -209,6 +211,7 @@ fn run<G: Graphs, R: Rows, L: Ledger>(
     graphs: &mut G,
     rows: &mut R,
     e: ExitId,
+    more: &[ExitId],
     mode: Mode,
     methods: &mut Vec<Option<Method>>,
     hands: &mut Hands,
@@ -219,11 +222,11 @@ fn run<G: Graphs, R: Rows, L: Ledger>(
 ) -> Result<(), NoMemory>
     requires graphs { G.sound graphs.old × (G.facts graphs.old ≡ f.now) }
     requires rows { R.sound rows.old × (R.facts rows.old ≡ f.now) }
-    requires holds { Holds f.now mode e (λ d. R.surely rows.old d mode) methods.old.items hands.old asked.old.items found.old.items queue.old.items }
+    requires holds { Holds f.now mode (IsFirst e more.now) (λ d. R.surely rows.old d mode) methods.old.items hands.old asked.old.items found.old.items queue.old.items }
     requires done { IsDone f.now mode hands.old (Got f.now found.old.items) (Todo f.now found.old.items) }
     ensures graphs { G.sound graphs.new × G.later graphs.old graphs.new }
     ensures rows { R.sound rows.new × R.later rows.old rows.new }
-    ensures holds { OnOk result (Holds f.now mode e (λ d. R.surely rows.new d mode) methods.new.items hands.new asked.new.items found.new.items queue.new.items) }
+    ensures holds { OnOk result (Holds f.now mode (IsFirst e more.now) (λ d. R.surely rows.new d mode) methods.new.items hands.new asked.new.items found.new.items queue.new.items) }
     ensures done { OnOk result (IsDone f.now mode hands.new (Got f.now found.new.items) (Todo f.now found.new.items)) }
     ensures idle { OnOk result (queue.new.items ≡ []) }
     ensures more { OnOk result ((d : ExitId) → Contains asked.old.items d → Contains asked.new.items d) }
@@ -243,6 +246,7 @@ fn run<G: Graphs, R: Rows, L: Ledger>(
             graphs,
             rows,
             e,
+            more,
             mode,
             n,
             &delta,
@@ -258,9 +262,116 @@ fn run<G: Graphs, R: Rows, L: Ledger>(
     Ok(())
 }
 
-/// The table of an exit: its row, and those of the exits that it demands and that have no row to hand. It asks for the graphs
-/// of the methods of these exits alone. One turn is taken for each path edge of the table's exits (Horwitz, Reps and Binkley,
-/// TOPLAS 1990; path edges after Reps, Horwitz and Sagiv, POPL 1995), and a step for each word of a row and edge.
+// Asks for the first exits: for the one itself, and for each of the others that has no row to hand.
+fn start<G: Graphs, R: Rows, L: Ledger>(
+    alloc: Global,
+    f: &Facts,
+    graphs: &mut G,
+    rows: &mut R,
+    e: ExitId,
+    more: &[ExitId],
+    mode: Mode,
+    methods: &mut Vec<Option<Method>>,
+    hands: &mut Hands,
+    asked: &mut Vec<ExitId>,
+    found: &mut Vec<Found>,
+    queue: &mut VecDeque<NodeId>,
+    steps: &mut Steps<L>,
+) -> Result<(), NoMemory>
+    requires graphs { G.sound graphs.old × (G.facts graphs.old ≡ f.now) }
+    requires rows { R.sound rows.old × (R.facts rows.old ≡ f.now) }
+    requires exit { e.0 < length f.now.exits }
+    requires exits { (d : ExitId) → Contains more.now d → d.0 < length f.now.exits }
+    requires holds { Holds f.now mode (IsFirst e more.now) (λ _. ⊥) methods.old.items hands.old asked.old.items found.old.items queue.old.items }
+    requires none { asked.old.items ≡ [] }
+    ensures graphs { G.sound graphs.new × G.later graphs.old graphs.new }
+    ensures rows { R.sound rows.new × R.later rows.old rows.new }
+    ensures holds { OnOk result (Holds f.now mode (IsFirst e more.now) (λ d. R.surely rows.new d mode) methods.new.items hands.new asked.new.items found.new.items queue.new.items) }
+    ensures meets { OnOk result (Meets f.now hands.old hands.new asked.old.items asked.new.items found.old.items found.new.items) }
+    ensures own { OnOk result (Contains asked.new.items e) }
+    ensures known { OnOk result ((d : ExitId) → Contains more.now d → Contains asked.new.items d ⊎ R.surely rows.new d mode) }
+    ensures wanting { OnOk result (AreWanting (λ d. R.surely rows.old d mode) (e ∷ []) asked.new.items) }
+    ensures turns { steps.new + total found.old.items ≡ steps.old + total found.new.items }
+{
+    begin(
+        alloc, f, graphs, e, more, mode, methods, hands, asked, found, queue, steps,
+    )?;
+    meet_all(
+        alloc, f, graphs, rows, e, more, mode, more, methods, hands, asked, found, queue, steps,
+    )?;
+    Ok(())
+}
+
+/// The table of an exit, and of more exits at once: its row, those of the others that have no row to hand, and those of the exits that
+/// these demand and that have none. It asks for the graphs of the methods of these exits alone. One turn is taken for each path edge
+/// of the table's exits (Horwitz, Reps and Binkley, TOPLAS 1990; path edges after Reps, Horwitz and Sagiv, POPL 1995), and a step for
+/// each word of a row and edge. Room is taken for a bit for each node and exit of a method once a call, so that many exits of one method
+/// cost little more at once than one of them.
+pub fn tabulate_with<G: Graphs, R: Rows, L: Ledger>(
+    alloc: Global,
+    f: &Facts,
+    graphs: &mut G,
+    rows: &mut R,
+    e: ExitId,
+    more: &[ExitId],
+    mode: Mode,
+    steps: &mut Steps<L>,
+) -> Result<Table, NoMemory>
+    requires graphs { G.sound graphs.old × (G.facts graphs.old ≡ f.now) }
+    requires rows { R.sound rows.old × (R.facts rows.old ≡ f.now) }
+    requires exit { e.0 < length f.now.exits }
+    requires exits { (d : ExitId) → Contains more.now d → d.0 < length f.now.exits }
+    ensures graphs { G.sound graphs.new × G.later graphs.old graphs.new }
+    ensures rows { R.sound rows.new × R.later rows.old rows.new }
+    ensures table { IfOk result (IsTableFrom f.now mode e (IsFirst e more.now) (λ d. R.surely rows.old d mode) (λ d. R.surely rows.new d mode)) }
+    ensures turns { IfOk result (IsCounted f.now mode steps.old steps.new) }
+{
+    let count = f.inputs.items().len();
+    let mut methods = none_met(alloc, count)?;
+    let mut hands = Hands::new(alloc);
+    let mut asked = Vec::new(alloc);
+    let mut found = blank(alloc, count)?;
+    let mut queue = VecDeque::new(alloc);
+    start(
+        alloc,
+        f,
+        graphs,
+        rows,
+        e,
+        more,
+        mode,
+        &mut methods,
+        &mut hands,
+        &mut asked,
+        &mut found,
+        &mut queue,
+        steps,
+    )?;
+    run(
+        alloc,
+        f,
+        graphs,
+        rows,
+        e,
+        more,
+        mode,
+        &mut methods,
+        &mut hands,
+        &mut asked,
+        &mut found,
+        &mut queue,
+        steps,
+    )?;
+    let rows = rows_of(alloc, f, &methods, &asked, &found)?;
+    Ok(Table {
+        exit: e,
+        mode,
+        rows: List::from_vec(rows),
+    })
+}
+
+/// The table of an exit: its row, and those of the exits that it demands and that have no row to hand. As `tabulate_with`, with no
+/// more exits.
 pub fn tabulate<G: Graphs, R: Rows, L: Ledger>(
     alloc: Global,
     f: &Facts,
@@ -278,43 +389,5 @@ pub fn tabulate<G: Graphs, R: Rows, L: Ledger>(
     ensures table { IfOk result (IsTable f.now mode e (λ d. R.surely rows.old d mode) (λ d. R.surely rows.new d mode)) }
     ensures turns { IfOk result (IsCounted f.now mode steps.old steps.new) }
 {
-    let count = f.inputs.items().len();
-    let mut methods = none_met(alloc, count)?;
-    let mut hands = Hands::new(alloc);
-    let mut asked = Vec::new(alloc);
-    let mut found = blank(alloc, count)?;
-    let mut queue = VecDeque::new(alloc);
-    begin(
-        alloc,
-        f,
-        graphs,
-        e,
-        mode,
-        &mut methods,
-        &hands,
-        &mut asked,
-        &mut found,
-        &mut queue,
-        steps,
-    )?;
-    run(
-        alloc,
-        f,
-        graphs,
-        rows,
-        e,
-        mode,
-        &mut methods,
-        &mut hands,
-        &mut asked,
-        &mut found,
-        &mut queue,
-        steps,
-    )?;
-    let rows = rows_of(alloc, f, &methods, &asked, &found)?;
-    Ok(Table {
-        exit: e,
-        mode,
-        rows: List::from_vec(rows),
-    })
+    tabulate_with(alloc, f, graphs, rows, e, &[], mode, steps)
 }

@@ -4,6 +4,7 @@
 //! it, and goes on from there once it was fetched.
 #![tactic(auto)]
 
+pub mod ahead;
 pub mod asked;
 pub mod follow;
 pub mod laws;

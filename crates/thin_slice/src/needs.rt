@@ -85,7 +85,7 @@ fn misses<R: KnownRows>(rows: &mut R, e: ExitId, mode: Mode) -> Option<ExitId>
 }
 
 // The exit whose node this is, where its row isn't known.
-fn row_need<R: KnownRows>(f: &Facts, rows: &mut R, mode: Mode, n: NodeId) -> Option<ExitId>
+pub fn row_need<R: KnownRows>(f: &Facts, rows: &mut R, mode: Mode, n: NodeId) -> Option<ExitId>
     requires sound { R.sound rows.old }
     requires facts { R.facts rows.old ≡ f.now }
     ensures sound { R.sound rows.new }

@@ -1,6 +1,7 @@
 // A walk that can stop where something is missing, and go on from there.
-ghost use Rattle.std.specs.Prelude.{◌≡◌, ◌<◌, ◌↔◌, IsTrue, IfOk, All, Contains, length};
+ghost use Rattle.std.specs.Prelude.{◌≡◌, ◌<◌, ◌↔◌, IsTrue, IfOk, OnOk, All, Contains, length};
 ghost use Rattle.slicer_ids.specs.declared.ids.NodeId.{NodeId};
+ghost use Rattle.slicer_ids.specs.declared.ids.ExitId.{ExitId};
 ghost use Rattle.slicer_ids.specs.declared.ids.Mode.{Mode};
 ghost use Rattle.dep_form.specs.declared.facts.Facts.{Facts};
 ghost use Rattle.dep_form.specs.Firsts.{node_count, nodes_in};
@@ -9,13 +10,14 @@ ghost use Rattle.thin_slice.specs.Marks.{AreMarked, found};
 ghost use Rattle.thin_slice.specs.Walks.{IsWalkOf, IsWalking, IsFresh, AreServed, IsFetched, IsCause, IsAllFetched, ModeSlice, WhenFinished, nodes_of, seeds_of};
 ghost use Rattle.thin_slice.specs.declared.needs.Phase.TheVariants.{Up, Down};
 
+use crate::ahead::add_exits_at;
 use crate::asked::{KnownRows, SeenGraphs};
 use crate::marked::MarkedNodes;
 use crate::needs::{Go, Phase, is_need};
 use crate::phases::{walk_down, walk_up};
 use dep_form::facts::Facts;
 use dep_form::input::MethodInput;
-use slicer_ids::ids::{Mode, NoMemory, NodeId};
+use slicer_ids::ids::{ExitId, Mode, NoMemory, NodeId};
 use std::alloc::Global;
 
 /// A slice by a walk back from its seeds, first up to callers, then down into the methods called (Horwitz, Reps, Binkley). It takes
@@ -228,6 +230,35 @@ impl Walk {
         let go = self.advance(f, graphs, rows, mode);
         self.last = go;
         go
+    }
+
+    /// Adds the exits that return to nodes that were found and not yet taken up in this phase, the next 4,096 of them, and whose rows
+    /// aren't known, so that they can be fetched at once: the slice needs them all. Where the graph of a node's method wasn't seen the
+    /// node is left out. An exit may be added more than once. It costs these nodes and the edges that end in them, and takes memory for
+    /// what it adds alone.
+    pub fn ahead<G: SeenGraphs, R: KnownRows>(
+        &self,
+        f: &Facts,
+        graphs: &G,
+        rows: &mut R,
+        mode: Mode,
+        into: &mut Vec<ExitId>,
+    ) -> Result<(), NoMemory>
+        requires walk { IsWalkOf f.now self.now }
+        requires graphs { G.sound graphs.now }
+        requires graph_facts { G.facts graphs.now ≡ f.now }
+        requires sound { R.sound rows.old }
+        requires facts { R.facts rows.old ≡ f.now }
+        requires exits { (d : ExitId) → Contains into.old.items d → d.0 < length f.now.exits }
+        ensures sound { R.sound rows.new }
+        ensures later { R.later rows.old rows.new }
+        ensures exits { OnOk result ((d : ExitId) → Contains into.new.items d → d.0 < length f.now.exits) }
+    {
+        let end = self.nodes.count.min(self.next.saturating_add(4096));
+        for place in self.next..end {
+            add_exits_at(f, graphs, rows, mode, self.nodes.at(place), into)?;
+        }
+        Ok(())
     }
 
     /// Whether the node was found. Once the walk is finished it is so exactly where the node is of the slice.

@@ -1,6 +1,6 @@
 use Rattle.std.proofs.Common.{rules, ap, length, arith}
 use Rattle.std.proofs.lemmas.Option.{slice_get_within}
-use Rattle.program_reader.proofs.Coded.{bodies_more, first_bad}
+use Rattle.body_rules.proofs.Coded.{bodies_more, first_bad}
 use Rattle.class_loader.proofs.code.try_bodies.Goals as goal
 
 pub loop-place-init : goal.loop-place-init

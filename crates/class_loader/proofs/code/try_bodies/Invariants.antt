@@ -1,4 +1,4 @@
-use Rattle.program_reader.specs.Mains.{HaveBodiesBefore}
+use Rattle.body_rules.specs.Methods.{HaveBodiesBefore}
 use Rattle.class_loader.proofs.code.try_bodies.Given as goal
 
 abbrev pub invariant-loop-place : goal.invariant-loop-place

@@ -1,5 +1,5 @@
 use Rattle.std.proofs.Common.{rules}
-use Rattle.program_reader.proofs.Coded.{here, coded, readable, has_body}
+use Rattle.body_rules.proofs.Coded.{here, coded, readable, has_body}
 use Rattle.class_loader.proofs.code.try_method.Goals as goal
 
 pub read_code-requires : goal.read_code-requires

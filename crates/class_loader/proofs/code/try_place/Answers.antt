@@ -1,7 +1,7 @@
 use Rattle.std.proofs.Common.{subst}
 use Rattle.class_form.specs.Classes.{HasCode}
 use Rattle.class_form.specs.declared.class_file.Member.{Member}
-use Rattle.program_reader.proofs.Coded.{here, one_method}
+use Rattle.body_rules.proofs.Coded.{here, one_method}
 use Rattle.class_loader.proofs.code.try_place.Goals as goal
 
 pub try_method-requires-clause-code : goal.try_method-requires-clause-code

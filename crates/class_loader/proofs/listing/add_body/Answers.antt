@@ -2,7 +2,7 @@ use Rattle.std.proofs.Common.{inl, inr, subst, rules}
 use Rattle.std.proofs.lemmas.Result.{on_ok_weaker}
 use Rattle.class_form.specs.Classes.{HasCode}
 use Rattle.class_form.specs.declared.class_file.Member.{Member}
-use Rattle.program_reader.proofs.Coded.{here, one_method}
+use Rattle.body_rules.proofs.Coded.{here, one_method}
 use Rattle.class_loader.proofs.listing.add_body.Goals as goal
 
 pub add_code-requires-clause-code : goal.add_code-requires-clause-code

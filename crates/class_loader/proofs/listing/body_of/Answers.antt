@@ -1,4 +1,4 @@
-use Rattle.program_reader.proofs.Coded.{here, coded, readable}
+use Rattle.body_rules.proofs.Coded.{here, coded, readable}
 use Rattle.class_loader.proofs.listing.body_of.Goals as goal
 
 pub read_body-requires : goal.read_body-requires

@@ -1,5 +1,5 @@
 use Rattle.std.proofs.Common.{rules}
-use Rattle.program_reader.proofs.OneMain.{found_fault, found_bad}
+use Rattle.body_rules.proofs.OneLine.{found_fault, found_bad}
 use Rattle.class_loader.proofs.sound.read_sound.Goals as goal
 
 pub returns-in_err-class-clause-refused : goal.returns-in_err-class-clause-refused

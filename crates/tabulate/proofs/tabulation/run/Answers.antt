@@ -8,6 +8,7 @@ use Rattle.tabulate.proofs.Bounds.{total_below}
 use Rattle.tabulate.proofs.MeetLaws.{match_some, match_none}
 use Rattle.tabulate.proofs.DoneLaws.{done_taken}
 use Rattle.tabulate.proofs.Backward.{holds_next}
+use Rattle.tabulate.specs.Tables.{IsFirst}
 use Rattle.tabulate.proofs.tabulation.run.Goals as goal
 
 pub loop-buffers-init : goal.loop-buffers-init
@@ -56,7 +57,7 @@ go_back-requires-clause-holds g c =
     let p = c.args.f.now in
     let l = c.loop-buffers in
     let next : IsNext p l.found.items c.take_next.new.found.items l.queue.items c.take_next.new.queue.items c.in-Some.n c.take_next.new.delta.items = match_some _ _ c.in_ok-n.field-0 c.in-Some.n c.in-Some.is c.in_ok-n.ensures.taken in
-    holds_next p c.args.mode c.args.e (λ d. g.R.Rows.surely l.rows d c.args.mode) l.methods.items l.hands l.asked.items l.found.items l.queue.items l.invariant.holds c.take_next.new.found.items c.take_next.new.queue.items c.in-Some.n c.take_next.new.delta.items next
+    holds_next p c.args.mode (IsFirst c.args.e c.args.more.now) (λ d. g.R.Rows.surely l.rows d c.args.mode) l.methods.items l.hands l.asked.items l.found.items l.queue.items l.invariant.holds c.take_next.new.found.items c.take_next.new.queue.items c.in-Some.n c.take_next.new.delta.items next
 
 pub go_back-requires-clause-done : goal.go_back-requires-clause-done
 go_back-requires-clause-done g c =
@@ -71,5 +72,5 @@ returns-clause-holds g c =
     let p = c.args.f.now in
     let l = c.loop-buffers in
     let none = match_none _ _ c.in_ok-n.field-0 c.in_default.is c.in_ok-n.ensures.taken in
-    subst (λ (ts : List Found). Holds p c.args.mode c.args.e (λ d. g.R.Rows.surely l.rows d c.args.mode) l.methods.items l.hands l.asked.items ts c.take_next.new.queue.items) (sym none.2)
-    (subst (λ (ys : List NodeId). Holds p c.args.mode c.args.e (λ d. g.R.Rows.surely l.rows d c.args.mode) l.methods.items l.hands l.asked.items l.found.items ys) (sym none.1) l.invariant.holds)
+    subst (λ (ts : List Found). Holds p c.args.mode (IsFirst c.args.e c.args.more.now) (λ d. g.R.Rows.surely l.rows d c.args.mode) l.methods.items l.hands l.asked.items ts c.take_next.new.queue.items) (sym none.2)
+    (subst (λ (ys : List NodeId). Holds p c.args.mode (IsFirst c.args.e c.args.more.now) (λ d. g.R.Rows.surely l.rows d c.args.mode) l.methods.items l.hands l.asked.items l.found.items ys) (sym none.1) l.invariant.holds)

@@ -1,58 +1,6 @@
-use Rattle.std.proofs.Common.{◌≡◌, ◌∷◌, ◌∙◌, ℕ, List, [], length, Contains, refl, sym, subst, ap, arith}
-use Rattle.slicer_ids.specs.declared.ids.NodeId.{NodeId}
-use Rattle.slicer_ids.specs.declared.ids.ExitId.{ExitId}
-use Rattle.bit_rows.proofs.Counting.{here}
-use Rattle.std.specs.Prelude.{map}
-use Rattle.tabulate.specs.declared.found.Found.{Found}
-use Rattle.tabulate.specs.declared.table.Table.{Table}
-use Rattle.tabulate.specs.States.{Holds, AreWanting, IsRowFound}
-use Rattle.tabulate.specs.Tables.{exits_of}
-use Rattle.tabulate.proofs.Blank.{blank_total}
-use Rattle.tabulate.proofs.Starting.{holds_start, done_start}
-use Rattle.tabulate.proofs.Backward.{asked_there}
-use Rattle.tabulate.proofs.TableLaws.{is_table, is_counted}
+use Rattle.std.proofs.lemmas.Result.{IfOk-weaker}
+use Rattle.tabulate.proofs.TableLaws.{table_alone}
 use Rattle.tabulate.proofs.tabulation.tabulate.Goals as goal
 
-pub begin-requires-clause-holds : goal.begin-requires-clause-holds
-begin-requires-clause-holds g c =
-    let p = c.args.f.now in
-    let count = ap length c.items-count.ensures in
-    subst (λ (ys : List ExitId). Holds p c.args.mode c.args.e (λ _. ⊥) c.in_ok-methods.methods.items c.new-hands.result ys c.in_ok-found.found.items c.new-queue.result.items) (sym c.new-asked.ensures.items)
-    (subst (λ (ys : List NodeId). Holds p c.args.mode c.args.e (λ _. ⊥) c.in_ok-methods.methods.items c.new-hands.result [] c.in_ok-found.found.items ys) (sym c.new-queue.ensures.items)
-    (holds_start p c.args.mode c.in_ok-found.found.items c.in_ok-found.ensures.blank c.args.e c.in_ok-methods.methods.items c.new-hands.result (omega (arith, c.in_ok-methods.ensures.len, count)) c.in_ok-methods.ensures.none c.new-hands.ensures (omega (arith, c.in_ok-found.ensures.len, count))))
-
-pub run-requires-clause-done : goal.run-requires-clause-done
-run-requires-clause-done g c = done_start c.args.f.now c.args.mode c.in_ok-found.found.items c.in_ok-found.ensures.blank c.new-hands.result c.new-asked.result.items c.begin.new.asked.items c.begin.new.found.items c.in_ok-begin.ensures.meets
-
-pub rows_of-requires-clause-exits : goal.rows_of-requires-clause-exits
-rows_of-requires-clause-exits g c = λ d k. asked_there c.args.f.now c.args.mode c.args.e (λ y. g.R.Rows.surely c.run.new.rows y c.args.mode) c.run.new.methods.items c.run.new.hands c.run.new.asked.items c.run.new.found.items c.run.new.queue.items c.in_ok-run.ensures.holds d (subst (λ (ys : List ExitId). Contains ys d) c.deref.ensures.value k)
-
 pub returns-clause-table : goal.returns-clause-table
-returns-clause-table g c =
-    let p = c.args.f.now in
-    let r = c.in_ok-run.ensures in
-    let asked : List ExitId = c.run.new.asked.items in
-    let ts : List Found = c.run.new.found.items in
-    let s : Holds p c.args.mode c.args.e (λ y. g.R.Rows.surely c.run.new.rows y c.args.mode) c.run.new.methods.items c.run.new.hands asked ts [] =
-    subst (λ (ys : List NodeId). Holds p c.args.mode c.args.e (λ y. g.R.Rows.surely c.run.new.rows y c.args.mode) c.run.new.methods.items c.run.new.hands asked ts ys) r.idle r.holds in
-    let want : AreWanting (λ y. g.R.Rows.surely c.args.rows.now y c.args.mode) (c.args.e ∷ []) asked = subst (λ (ys : List ExitId). AreWanting (λ y. g.R.Rows.surely c.args.rows.now y c.args.mode) ys asked) c.in_ok-begin.ensures.asked r.wanting in
-    let own : Contains asked c.args.e = r.more c.args.e (subst (λ (ys : List ExitId). Contains ys c.args.e) (sym c.in_ok-begin.ensures.asked) (here c.args.e [])) in
-    let t : Table = record { exit = c.args.e; mode = c.args.mode; rows = c.from_vec.result } in
-    let exits_are : exits_of t ≡ asked = ap (map (λ (y : ExitId × List ℕ). y.0)) c.from_vec.ensures ∙ c.in_ok-rows.ensures.exits ∙ c.deref.ensures.value in
-    let rows : (k : ExitId) (row : List ℕ) → Contains t.rows (k, row) → IsRowFound p ts k row = λ k row m. c.in_ok-rows.ensures.rows k row (subst (λ (ys : List (ExitId × List ℕ)). Contains ys (k, row)) c.from_vec.ensures m) in
-    is_table p c.args.mode c.args.e (λ y. g.R.Rows.surely c.run.new.rows y c.args.mode) c.run.new.methods.items c.run.new.hands asked ts s r.done (λ y. g.R.Rows.surely c.args.rows.now y c.args.mode) want own t refl refl exits_are rows
-
-pub returns-clause-turns : goal.returns-clause-turns
-returns-clause-turns g c =
-    let p = c.args.f.now in
-    let r = c.in_ok-run.ensures in
-    let asked : List ExitId = c.run.new.asked.items in
-    let ts : List Found = c.run.new.found.items in
-    let s : Holds p c.args.mode c.args.e (λ y. g.R.Rows.surely c.run.new.rows y c.args.mode) c.run.new.methods.items c.run.new.hands asked ts [] =
-    subst (λ (ys : List NodeId). Holds p c.args.mode c.args.e (λ y. g.R.Rows.surely c.run.new.rows y c.args.mode) c.run.new.methods.items c.run.new.hands asked ts ys) r.idle r.holds in
-    let want : AreWanting (λ y. g.R.Rows.surely c.args.rows.now y c.args.mode) (c.args.e ∷ []) asked = subst (λ (ys : List ExitId). AreWanting (λ y. g.R.Rows.surely c.args.rows.now y c.args.mode) ys asked) c.in_ok-begin.ensures.asked r.wanting in
-    let own : Contains asked c.args.e = r.more c.args.e (subst (λ (ys : List ExitId). Contains ys c.args.e) (sym c.in_ok-begin.ensures.asked) (here c.args.e [])) in
-    let t : Table = record { exit = c.args.e; mode = c.args.mode; rows = c.from_vec.result } in
-    let exits_are : exits_of t ≡ asked = ap (map (λ (y : ExitId × List ℕ). y.0)) c.from_vec.ensures ∙ c.in_ok-rows.ensures.exits ∙ c.deref.ensures.value in
-    let rows : (k : ExitId) (row : List ℕ) → Contains t.rows (k, row) → IsRowFound p ts k row = λ k row m. c.in_ok-rows.ensures.rows k row (subst (λ (ys : List (ExitId × List ℕ)). Contains ys (k, row)) c.from_vec.ensures m) in
-    is_counted p c.args.mode c.args.e (λ y. g.R.Rows.surely c.run.new.rows y c.args.mode) c.run.new.methods.items c.run.new.hands asked ts s r.done (λ y. g.R.Rows.surely c.args.rows.now y c.args.mode) want own t refl refl exits_are rows c.args.steps.now c.run.new.steps (omega (arith, c.in_ok-begin.ensures.turns, r.turns, blank_total p c.in_ok-found.found.items c.in_ok-found.ensures.blank))
+returns-clause-table g c = IfOk-weaker c.tabulate_with.result _ _ (λ t is. table_alone c.args.f.now c.args.mode c.args.e t _ _ is) c.tabulate_with.ensures.table

@@ -1,4 +1,4 @@
-use Rattle.std.proofs.Common.{◌≡◌, ◌∙◌, ℕ, List, [], ◌<◌, get_or, Contains, sym, subst, ap, arith}
+use Rattle.std.proofs.Common.{◌≡◌, ◌∙◌, ℕ, List, [], ◌<◌, get_or, Contains, inl, inr, sym, subst, ap, arith}
 use Rattle.std.specs.Prelude.{length}
 use Rattle.std.proofs.lemmas.List.{get_or-map, length-map}
 use Rattle.std.proofs.lemmas.Option.{same_Some, slice_get-get_or}
@@ -9,6 +9,7 @@ use Rattle.tabulate.specs.declared.table.Table.{Table}
 use Rattle.tabulate.specs.Tables.{HasExit}
 use Rattle.summary_memo.specs.Memo.{view_of}
 use Rattle.summary_memo.specs.Rule.{KnowsShut}
+use Rattle.summary_memo.proofs.Knowing.{still_shut}
 use Rattle.summary_memo.proofs.memo.Memo.make.Goals as goal
 
 pub fill_all-requires-clause-rows : goal.fill_all-requires-clause-rows
@@ -27,3 +28,11 @@ pub returns-clause-shut : goal.returns-clause-shut
 returns-clause-shut g c =
     let r = row_of_exit c.in_ok-table.table c.args.e c.in_ok-table.ensures.own in
     subst (λ (f : Facts). KnowsShut (view_of c.fill_all.new.seat) f c.args.e c.args.mode) c.requires.facts (c.fill_all.ensures.shut c.args.e r.0 (subst (λ (ys : List (ExitId × List ℕ)). Contains ys (c.args.e, r.0)) (sym c.items.ensures) r.1))
+
+pub returns-clause-more : goal.returns-clause-more
+returns-clause-more g c = λ d k. elim (c.in_ok-table.ensures.more.each d k) [
+  | inl own ↦
+      let r = row_of_exit c.in_ok-table.table d own in
+      subst (λ (f : Facts). KnowsShut (view_of c.fill_all.new.seat) f d c.args.mode) c.requires.facts (c.fill_all.ensures.shut d r.0 (subst (λ (ys : List (ExitId × List ℕ)). Contains ys (d, r.0)) (sym c.items.ensures) r.1))
+  | inr shut ↦ still_shut (view_of c.table.new.seat) (view_of c.fill_all.new.seat) c.args.f.now d c.args.mode c.fill_all.ensures.knows shut
+]

@@ -1,2 +1,0 @@
-pub mod OnePoint
-pub mod Closed

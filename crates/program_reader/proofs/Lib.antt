@@ -1,4 +1,0 @@
-pub mod Coded
-pub mod Octets
-pub mod Narrow
-pub mod OneMain

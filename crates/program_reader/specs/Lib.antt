@@ -1,3 +1,0 @@
-pub mod Mains
-pub mod Readings
-pub mod Entering
