@@ -3,7 +3,7 @@ ghost use Rattle.std.specs.Prelude.{◌≡◌};
 
 use edge_io::sink::{Sink, SinkError};
 use slicer_ids::name::Name;
-use std::io::Write;
+use std::io::{self, Write};
 
 /// An open file with its path, and how often writing it failed.
 #[derive(Drop)]
@@ -41,6 +41,15 @@ impl<F: Write> FileSink<F> {
     }
 }
 
+// Writes a piece, and hands on what is kept back where the piece ends a line.
+fn put<F: Write>(file: &mut F, piece: &[u8]) -> io::Result<usize> {
+    let count = file.write(piece)?;
+    if piece.ends_with(b"\n") {
+        file.flush()?;
+    }
+    Ok(count)
+}
+
 impl<F: Write> Sink for FileSink<F> {
     ghost use Rattle.std.specs.Prelude.{None, false};
     ghost use Rattle.real_host.specs.Never.{never};
@@ -55,9 +64,10 @@ impl<F: Write> Sink for FileSink<F> {
 
     ghost steady_below = { λ s e. never e };
 
-    // A device that takes nothing is a fault.
+    // A device that takes nothing is a fault. What a writer keeps back is handed on with each end of a line, so that a reply that was
+    // written to its end was taken by the device.
     fn write(&mut self, piece: &[u8]) -> Result<usize, SinkError> {
-        match self.file.write(piece) {
+        match put(&mut self.file, piece) {
             Ok(count) if count > 0 && count <= piece.len() => Ok(count),
             _ => {
                 self.faults = self.faults.saturating_add(1);

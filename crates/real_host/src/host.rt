@@ -8,6 +8,7 @@ use crate::reads::{create_file, list_folder, open_file, read_file};
 use edge_io::host::{Host, HostError, Item};
 use slicer_ids::name::Name;
 use std::alloc::Global;
+use std::io::BufWriter;
 use std::rt::Files;
 
 /// The files and the standard output of a runtime, and how often a call failed.
@@ -42,7 +43,7 @@ where
 {
     type In = FileSource<R::File>;
 
-    type Out = FileSink<R::File>;
+    type Out = FileSink<BufWriter<R::File>>;
 
     ghost use Rattle.std.specs.Prelude.{None, false};
 
@@ -79,15 +80,18 @@ where
         }
     }
 
-    fn create(&mut self, path: &str) -> Result<FileSink<R::File>, HostError> {
+    fn create(&mut self, path: &str) -> Result<FileSink<BufWriter<R::File>>, HostError> {
         let label = Name::from_bytes(self.rt.alloc(), path.as_bytes())?;
         match create_file(&self.rt, path) {
-            Ok(file) => Ok(FileSink::new(file, label)),
+            Ok(file) => match BufWriter::new(self.rt.alloc(), file) {
+                Ok(file) => Ok(FileSink::new(file, label)),
+                Err(_) => Err(HostError::NoMemory),
+            },
             Err(error) => Err(self.counted(error)),
         }
     }
 
-    fn close(&mut self, out: FileSink<R::File>) -> Result<(), HostError> {
+    fn close(&mut self, out: FileSink<BufWriter<R::File>>) -> Result<(), HostError> {
         if out.finish() {
             Ok(())
         } else {

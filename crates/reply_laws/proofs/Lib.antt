@@ -1,0 +1,3 @@
+mod Equalities
+mod AllExpanded
+mod Unaccepted
