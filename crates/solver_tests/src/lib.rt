@@ -3,5 +3,3 @@
 
 #[cfg(test)]
 mod systems;
-#[cfg(test)]
-mod written_system;

@@ -505,3 +505,85 @@ fn a_container_outside(rt: HostRuntime) -> Result<(), Fail> {
     assert!(rt; are_cells(&solution, &[(0, 2, 1)]));
     Ok(())
 }
+
+// The lists of an outside call of a receiver and a further reference.
+fn rule_of_two(alloc: Global) -> Result<OutsideRule, NoMemory> {
+    Ok(OutsideRule {
+        reads: List::from_vec(vec![in alloc; 0, 1]?),
+        written: List::from_vec(vec![in alloc; 1]?),
+        states: List::from_vec(vec![in alloc; 0]?),
+        arrays: List::from_vec(vec![in alloc; 1]?),
+    })
+}
+
+// The lists of an outside call of a receiver alone.
+fn rule_of_receiver(alloc: Global) -> Result<OutsideRule, NoMemory> {
+    Ok(OutsideRule {
+        reads: List::from_vec(vec![in alloc; 0]?),
+        written: List::from_vec(Vec::new(alloc)),
+        states: List::from_vec(Vec::new(alloc)),
+        arrays: List::from_vec(Vec::new(alloc)),
+    })
+}
+
+// a = t.split(u); e = a[..]; e.length(), where t and u are two texts. An outside call that answers an array of texts has two sites,
+// the array that it may make and the text that this array holds. Variables: t, u, a, e, the length, what the two calls throw.
+fn split_text(alloc: Global) -> Result<Parts, NoMemory> {
+    let split = Rule::Virtual {
+        call: CallId(0),
+        signature: 1,
+    };
+    let length = Rule::Virtual {
+        call: CallId(1),
+        signature: 0,
+    };
+    let holds = Rule::Hold {
+        outer: SiteId(2),
+        inner: SiteId(3),
+    };
+    Ok(Parts {
+        constraints: List::from_vec(vec![in alloc;
+            at(0, length),
+            at(0, load(2, 0, 3)),
+            at(0, holds),
+            at(0, split),
+            at(0, alloc_of(1, 1)),
+            at(0, alloc_of(0, 0)),
+        ]?),
+        calls: List::from_vec(vec![in alloc;
+            call_of_two(alloc, true, Some(Var(2)), 5, Some(SiteId(2)))?,
+            call_of(alloc, 3, true, Some(Var(4)), 6)?,
+        ]?),
+        methods: List::from_vec(Vec::new(alloc)),
+        sites: List::from_vec(vec![in alloc;
+            object(None, false),
+            object(None, false),
+            object(None, true),
+            object(None, false),
+        ]?),
+        subclasses: List::from_vec(Vec::new(alloc)),
+        selects: List::from_vec(Vec::new(alloc)),
+        outside_rules: List::from_vec(vec![in alloc;
+            rule_of_two(alloc)?,
+            rule_of_receiver(alloc)?,
+        ]?),
+        fields: 3,
+        vars: 7,
+    })
+}
+
+// The answer may be t, u or the new array, and t's state may hold u; what is read out of the array is the text that was made with it.
+// A call outside throws nothing, and one that answers a number gives no object.
+#[test]
+fn an_array_that_is_made_outside(rt: HostRuntime) -> Result<(), Fail> {
+    let solution = solved(&rt, rt.alloc(), split_text(rt.alloc())?)?;
+    assert!(rt; goes_outside(&solution, 0, Some(SiteId(0))));
+    assert!(rt; goes_outside(&solution, 1, Some(SiteId(3))));
+    assert!(rt; may_be(&solution, 2, &[0, 1, 2]));
+    assert!(rt; may_be(&solution, 3, &[3]));
+    assert!(rt; may_be(&solution, 4, &[]));
+    assert!(rt; may_be(&solution, 5, &[]));
+    assert!(rt; may_be(&solution, 6, &[]));
+    assert!(rt; are_cells(&solution, &[(0, 2, 1), (2, 0, 3)]));
+    Ok(())
+}
