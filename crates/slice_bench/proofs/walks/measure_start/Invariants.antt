@@ -1,0 +1,9 @@
+use Rattle.summary_memo.specs.Memo.{IsSeatOf}
+use Rattle.thin_slice.specs.Walks.{IsWalkOf}
+use Rattle.slice_bench.proofs.walks.measure_start.Given as goal
+
+abbrev pub invariant-loop : goal.invariant-loop
+invariant-loop l = record {
+  seat : IsSeatOf l.memo l.seat;
+  walk : IsWalkOf l.f l.walk;
+}
