@@ -400,3 +400,27 @@ Moves-got s old new R xs ys i x same lt e m = subst (λ zs. Moves s old new (IfS
 
 pub Moves-got_none : {X : Type 0} (s : System) (st : Found) (R : X → List Item → Item → Type 0) (xs ys : List X) (i : ℕ) → ys ≡ xs → length ys ≤ i → Moves s st st (IfSome R (slice_get xs i))
 Moves-got_none s st R xs ys i same le = subst (λ zs. Moves s st st (IfSome R (slice_get zs i))) same (Moves-past s st R ys i le)
+
+-- ---- what is poured in parts, where not every rule is tried
+pub Pours-none : (st : Found) (to : ℕ) (P : ℕ → Type 0) → st.full ≡ false → Pours st st to P
+Pours-none st to P partly = record {
+  places = refl;
+  len = refl;
+  other = λ r ne. refl;
+  keeps = λ k m. m;
+  only = λ k m. inl m;
+  quiet = λ q. let clash : true ≡ false = sym q.0 ∙ partly in absurd (cc clash);
+  short = λ a. a;
+}
+
+pub Pours-more : (old mid new : Found) (from to : ℕ) → from ≢ to → new.full ≡ false → Pours old mid to (IsMember (row_of old.rows.items from)) → Pours mid new to (IsMember (row_of mid.rows.items from))
+    → Pours old new to (IsMember (row_of old.rows.items from))
+Pours-more old mid new from to ne partly a b = record {
+  places = b.places ∙ a.places;
+  len = b.len ∙ a.len;
+  other = λ r n. b.other r n ∙ a.other r n;
+  keeps = λ k m. b.keeps k (a.keeps k m);
+  only = λ k m. elim (b.only k m) [ inl x ↦ a.only k x | inr p ↦ inr (subst (λ xs. IsMember xs k) (a.other from ne) p) ];
+  quiet = λ q. let clash : true ≡ false = sym q.0 ∙ partly in absurd (cc clash);
+  short = λ s. b.short (a.short s);
+}

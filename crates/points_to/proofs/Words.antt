@@ -28,9 +28,6 @@ max_is a b c e lb lc = (to, from)
 pub union_adds : (new mid old from : List ℕ) → ((i : ℕ) → get_or mid i 0 ≡ get_or old i 0) → ((i b : ℕ) → bit_at (get_or new i 0) b ≡ max (bit_at (get_or mid i 0) b) (bit_at (get_or from i 0) b)) → AddsTo old new (IsMember from)
 union_adds new mid old from same bits = λ k. max_is _ (bit_at (get_or old (k / 64) 0) (k % 64)) (bit_at (get_or from (k / 64) 0) (k % 64)) (bits (k / 64) (k % 64) ∙ ap (λ w. max (bit_at w (k % 64)) (bit_at (get_or from (k / 64) 0) (k % 64))) (same (k / 64))) (bit_at-lt (get_or old (k / 64) 0) (k % 64)) (bit_at-lt (get_or from (k / 64) 0) (k % 64))
 
-pub union_quiet : (new mid old : List ℕ) → ((i : ℕ) → get_or mid i 0 ≡ get_or old i 0) → new ≡ mid → (k : ℕ) → IsMember new k → IsMember old k
-union_quiet new mid old same e = λ k m. subst (λ w. bit_at w (k % 64) ≡ 1) (ap (λ (xs : List ℕ). get_or xs (k / 64) 0) e ∙ same (k / 64)) m
-
 module _ (words : List ℕ) (n : ℕ) (lt : n / 64 < length words) where
   abbrev pub with_bit : List ℕ
   with_bit = set words (n / 64) (bit_or (get_or words (n / 64) 0) (1 * 2 ^ (n % 64) % 2 ^ 64))
@@ -77,3 +74,33 @@ one_more_at words old n w lt is same = λ k. subst (λ x. IsMember (set words (n
 
 pub same_word : (words : List ℕ) (i : ℕ) (old new : ℕ) → old ≡ get_or words i old → i < length words → new ≡ old → set words i new ≡ words
 same_word words i old new is lt e = ap (set words i) (e ∙ is) ∙ set-get_or words i old
+
+-- ---- one word more
+module _ (words old : List ℕ) (n w bits : ℕ) (lt : n < length words) (is : w ≡ get_or words n w) (same : (i : ℕ) → get_or words i 0 ≡ get_or old i 0) where
+  abbrev pub with_word : List ℕ
+  with_word = set words n (bit_or w bits)
+
+  old_is : get_or old n 0 ≡ w
+  old_is = sym (same n) ∙ sym (is ∙ get_or_default words n w 0 lt)
+
+  bit_is : (k : ℕ) → k / 64 ≡ n → bit_at (get_or with_word (k / 64) 0) (k % 64) ≡ max (bit_at (get_or old (k / 64) 0) (k % 64)) (bit_at bits (k % 64))
+  bit_is k e = rw (e, get_or-set_same words n (bit_or w bits) 0 lt, old_is) (bit_at_or w bits (k % 64))
+
+  unchanged : (k : ℕ) → k / 64 ≢ n → bit_at (get_or with_word (k / 64) 0) (k % 64) ≡ bit_at (get_or old (k / 64) 0) (k % 64)
+  unchanged k ne = ap (λ x. bit_at x (k % 64)) (get_or-set_other words n (k / 64) (bit_or w bits) 0 ne ∙ same (k / 64))
+
+  decided : (k : ℕ) → k / 64 ≡ n → IsMember with_word k ↔ (IsMember old k ⊎ (bit_at bits (k % 64) ≡ 1))
+  decided k e = max_is _ _ _ (bit_is k e) (bit_at-lt (get_or old (k / 64) 0) (k % 64)) (bit_at-lt bits (k % 64))
+
+  pub word_keeps : (k : ℕ) → IsMember old k → IsMember with_word k
+  word_keeps k m = elim (cases_eq (k / 64) n) [ inl e ↦ (decided k e).1 (inl m) | inr ne ↦ unchanged k ne ∙ m ]
+
+  pub word_only : (k : ℕ) → IsMember with_word k → IsMember old k ⊎ ((k / 64 ≡ n) × (bit_at bits (k % 64) ≡ 1))
+  word_only k m = elim (cases_eq (k / 64) n) [
+    | inl e ↦ elim ((decided k e).0 m) [ inl o ↦ inl o | inr b ↦ inr (e, b) ]
+    | inr ne ↦ inl (sym (unchanged k ne) ∙ m)
+  ]
+
+-- the bits of a word of a row are members
+pub word_of : (row : List ℕ) (n bits k : ℕ) → n < length row → bits ≡ get_or row n bits → k / 64 ≡ n → bit_at bits (k % 64) ≡ 1 → IsMember row k
+word_of row n bits k lt is e b = subst (λ x. bit_at x (k % 64) ≡ 1) (is ∙ get_or_default row n bits 0 lt ∙ ap (λ i. get_or row i 0) (sym e)) b

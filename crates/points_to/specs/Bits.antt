@@ -32,3 +32,11 @@ pub record RowsAdd (old new : List (Vec ℕ)) (to : ℕ) (P : ℕ → Type 0) (c
   pub adds : AddsTo (row_of old to) (row_of new to) P
   pub quiet : changed ≡ false → (k : ℕ) → IsMember (row_of new to) k → IsMember (row_of old to) k
   pub short : AreShort old → AreShort new
+
+-- a row got some of another row's members, and all others are as they were
+pub record RowsTake (old new : List (Vec ℕ)) (from to : ℕ) : Type 0 where
+  pub len : length new ≡ length old
+  pub other : (r : ℕ) → r ≢ to → row_of new r ≡ row_of old r
+  pub keeps : (k : ℕ) → IsMember (row_of old to) k → IsMember (row_of new to) k
+  pub only : (k : ℕ) → IsMember (row_of new to) k → IsMember (row_of old to) k ⊎ IsMember (row_of old from) k
+  pub short : AreShort old → AreShort new

@@ -11,7 +11,7 @@ use crate::flows::flow_some;
 use crate::found::Found;
 use crate::look_ups::{is_receiver, var_at};
 use crate::place::Place;
-use crate::steps::{flow, is_recent, list};
+use crate::steps::{flow, is_new, list};
 use dep_form::call_site::CallSite;
 use dep_form::rules::MethodVars;
 use dep_form::system::System;
@@ -115,13 +115,14 @@ fn join_each(
     found: &mut Found,
     call: &CallSite,
     targets: &[u32],
-    force: bool,
+    c: CallId,
 ) -> Result<(), NoMemory>
     requires { IsShape found.old }
     ensures shape { OnOk result (IsShape found.new) }
     ensures moved { OnOk result ((s : System) → Moves s found.old found.new (OneOf (Joins system.now call.now) targets.now)) }
 {
     for target in targets {
+        let force = is_new(found, Place::Targets(c), *target);
         join_one(alloc, system, found, call, *target, force)?;
     }
     Ok(())
@@ -140,6 +141,5 @@ pub fn join_all(
     ensures moved { OnOk result ((s : System) → Moves s found.old found.new (Each (Targets c) (Joins system.now call.now))) }
 {
     let targets = list(alloc, found, Place::Targets(c))?;
-    let force = is_recent(found, Place::Targets(c));
-    join_each(alloc, system, found, call, targets.as_slice(), force)
+    join_each(alloc, system, found, call, targets.as_slice(), c)
 }

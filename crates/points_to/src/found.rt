@@ -1,12 +1,12 @@
 // What was found so far: rows of numbers, and which row each place has.
-ghost use Rattle.std.specs.Prelude.{◌≡◌, ◌<◌, ◌≤◌, ◌^◌, ◌+◌, ℕ, None, false, length, OnOk, IfOk};
+ghost use Rattle.std.specs.Prelude.{◌≡◌, ◌≢◌, ◌<◌, ◌≤◌, ◌^◌, ◌+◌, ℕ, None, false, length, OnOk, IfOk};
 ghost use Rattle.points_to.specs.Bits.{IsMember, row_of};
 ghost use Rattle.points_to.specs.States.{Pours, Opens, AreSorted, row_at};
 
 use crate::marks::Marks;
 use crate::place::Place;
 use crate::places::{Places, set};
-use crate::rows::{join_rows, pour_rows, put_rows};
+use crate::rows::{join_rows, join_word, pour_rows, put_rows};
 use slicer_ids::ids::NoMemory;
 use std::alloc::Global;
 
@@ -23,16 +23,17 @@ pub struct Found {
 }
 
 /// Notes that a row changed.
-fn note(found: &mut Found, row: usize, changed: bool)
-    ensures places { found.new.places ≡ found.old.places }
-    ensures rows { found.new.rows ≡ found.old.rows }
-    ensures full { found.new.full ≡ found.old.full }
-    ensures changed { found.new.changed ≡ false → (found.old.changed ≡ false) × (changed ≡ false) }
+fn note(found: &mut Found, row: usize, changed: bool) -> Result<(), NoMemory>
+    ensures places { OnOk result (found.new.places ≡ found.old.places) }
+    ensures rows { OnOk result (found.new.rows ≡ found.old.rows) }
+    ensures full { OnOk result (found.new.full ≡ found.old.full) }
+    ensures changed { OnOk result (found.new.changed ≡ false → (found.old.changed ≡ false) × (changed ≡ false)) }
 {
     if changed {
         found.changed = true;
-        found.marks.note(row);
+        found.marks.note(row)?;
     }
+    Ok(())
 }
 
 /// Adds bits to a row.
@@ -41,9 +42,8 @@ pub fn pour(found: &mut Found, bits: &[u64], to: usize) -> Result<(), NoMemory>
     requires short { length bits.now ≤ 2 ^ 26 }
     ensures { OnOk result (Pours found.old found.new to (IsMember bits.now)) }
 {
-    let changed = pour_rows(&mut found.rows, bits, to)?;
-    note(found, to, changed);
-    Ok(())
+    let changed = pour_rows(&mut found.rows, bits, to, &mut found.marks.places)?;
+    note(found, to, changed)
 }
 
 /// Adds a number to a row.
@@ -52,8 +52,10 @@ pub fn put(found: &mut Found, to: usize, number: u32) -> Result<(), NoMemory>
     ensures { OnOk result (Pours found.old found.new to (λ k. k ≡ number)) }
 {
     let changed = put_rows(&mut found.rows, to, number)?;
-    note(found, to, changed);
-    Ok(())
+    if changed {
+        found.marks.touch((number / 64) as usize)?;
+    }
+    note(found, to, changed)
 }
 
 fn join_now(alloc: Global, found: &mut Found, from: usize, to: usize) -> Result<(), NoMemory>
@@ -61,12 +63,55 @@ fn join_now(alloc: Global, found: &mut Found, from: usize, to: usize) -> Result<
     requires to { to < length found.old.rows.items }
     ensures { OnOk result (Pours found.old found.new to (IsMember (row_of found.old.rows.items from))) }
 {
-    let changed = join_rows(alloc, &mut found.rows, from, to)?;
-    note(found, to, changed);
+    let changed = join_rows(alloc, &mut found.rows, from, to, &mut found.marks.places)?;
+    note(found, to, changed)
+}
+
+// Adds a word of a row to another row.
+fn join_place(found: &mut Found, from: usize, to: usize, place: usize) -> Result<(), NoMemory>
+    requires from { from < length found.old.rows.items }
+    requires to { to < length found.old.rows.items }
+    requires partly { found.old.full ≡ false }
+    ensures pours { OnOk result (Pours found.old found.new to (IsMember (row_of found.old.rows.items from))) }
+    ensures partly { OnOk result (found.new.full ≡ false) }
+{
+    let changed = join_word(&mut found.rows, from, to, place)?;
+    if changed {
+        found.marks.touch(place)?;
+    }
+    note(found, to, changed)
+}
+
+// Adds the words of a row that changed lately to another row.
+fn join_places(found: &mut Found, from: usize, to: usize) -> Result<(), NoMemory>
+    requires from { from < length found.old.rows.items }
+    requires to { to < length found.old.rows.items }
+    requires other { from ≢ to }
+    requires partly { found.old.full ≡ false }
+    ensures { OnOk result (Pours found.old found.new to (IsMember (row_of found.old.rows.items from))) }
+{
+    for number in 0..found.marks.count(from) {
+        let place = found.marks.place(from, number);
+        join_place(found, from, to, place)?;
+    }
     Ok(())
 }
 
-/// Adds a row to another. Where not every rule is tried it may be left out, unless the row changed lately or it is forced.
+fn join_lately(found: &mut Found, from: usize, to: usize) -> Result<(), NoMemory>
+    requires from { from < length found.old.rows.items }
+    requires to { to < length found.old.rows.items }
+    requires partly { found.old.full ≡ false }
+    ensures { OnOk result (Pours found.old found.new to (IsMember (row_of found.old.rows.items from))) }
+{
+    if from == to {
+        Ok(())
+    } else {
+        join_places(found, from, to)
+    }
+}
+
+/// Adds a row to another. Where not every rule is tried it may be left out, unless the row changed lately or it is forced; where few words
+/// changed, these alone are added.
 pub fn join(
     alloc: Global,
     found: &mut Found,
@@ -79,10 +124,13 @@ pub fn join(
     ensures { OnOk result (Pours found.old found.new to (IsMember (row_of found.old.rows.items from))) }
 {
     let recent = found.marks.is_recent(from);
+    let few = found.marks.count(from) < found.rows[from].len() / 16;
     if found.full {
         join_now(alloc, found, from, to)
     } else if force {
         join_now(alloc, found, from, to)
+    } else if recent && few {
+        join_lately(found, from, to)
     } else if recent {
         join_now(alloc, found, from, to)
     } else {

@@ -10,7 +10,7 @@ ghost use Rattle.points_to.specs.States.{Moves, IsShape, IsGone};
 use crate::found::Found;
 use crate::look_ups::{argument_place, elements_of, state_of};
 use crate::place::Place;
-use crate::steps::{flow, give, has_some, is_new, is_recent, knows, list};
+use crate::steps::{flow, give, has_some, is_first, is_new, knows, list};
 use dep_form::call_site::CallSite;
 use dep_form::rules::{OutsideRule, Var};
 use dep_form::system::System;
@@ -488,7 +488,7 @@ fn go_if(
     ensures shape { OnOk result (IsShape found.new) }
     ensures moved { OnOk result ((s : System) → Moves s found.old found.new (OutsideCall system.now c call.now)) }
 {
-    let force = is_recent(found, Place::Static(c)) || is_recent(found, Place::Receivers(c));
+    let force = is_first(found, Place::Static(c)) || is_first(found, Place::Receivers(c));
     if gone {
         go_outside(alloc, system, found, c, call, force)
     } else {

@@ -1,5 +1,5 @@
 // A set of numbers as a row of bits.
-ghost use Rattle.std.specs.Prelude.{◌≡◌, ◌<◌, ◌≤◌, ◌*◌, ◌+◌, ◌/◌, ◌^◌, ◌↔◌, ℕ, false, IsTrue, length, slice_index, max, min, OnOk, IfOk};
+ghost use Rattle.std.specs.Prelude.{◌≡◌, ◌<◌, ◌≤◌, ◌*◌, ◌+◌, ◌/◌, ◌%◌, ◌^◌, ◌↔◌, ◌⊎◌, ℕ, false, IsTrue, length, slice_index, max, min, bit_or, OnOk, IfOk};
 ghost use Rattle.std.specs.Int.{bit_at};
 ghost use Rattle.slicer_ids.specs.Sets.{IsOrderedListOf};
 ghost use Rattle.points_to.specs.Bits.{IsMember, AddsTo, ListsBelow};
@@ -30,12 +30,20 @@ fn widen(row: &mut Vec<u64>, len: usize) -> Result<(), NoMemory>
     Ok(())
 }
 
-/// Adds the words' bits, and says whether that changed a word.
-fn or_words(to: &mut Vec<u64>, from: &[u64]) -> bool
+// Lists a place whose word is new.
+fn touch(touched: &mut Vec<usize>, place: usize, new: bool) -> Result<(), NoMemory> {
+    if new {
+        touched.push(place)?;
+    }
+    Ok(())
+}
+
+/// Adds the words' bits, and says whether that changed a word. The places of words that changed are added to a list.
+fn or_words(to: &mut Vec<u64>, from: &[u64], touched: &mut Vec<usize>) -> Result<bool, NoMemory>
     requires { length from.now ≤ length to.old.items }
-    ensures bits { (i b : ℕ) → bit_at (slice_index to.new.items i) b ≡ max (bit_at (slice_index to.old.items i) b) (bit_at (slice_index from.now i) b) }
-    ensures len { length to.new.items ≡ length to.old.items }
-    ensures quiet { result ≡ false → to.new.items ≡ to.old.items }
+    ensures bits { OnOk result ((i b : ℕ) → bit_at (slice_index to.new.items i) b ≡ max (bit_at (slice_index to.old.items i) b) (bit_at (slice_index from.now i) b)) }
+    ensures len { OnOk result (length to.new.items ≡ length to.old.items) }
+    ensures quiet { IfOk result (λ changed. changed ≡ false → to.new.items ≡ to.old.items) }
 {
     let mut changed = false;
     for k in 0..from.len() {
@@ -43,19 +51,37 @@ fn or_words(to: &mut Vec<u64>, from: &[u64]) -> bool
         let word = old | from[k];
         changed = changed || word != old;
         to[k] = word;
+        touch(touched, k, word != old)?;
     }
-    changed
+    Ok(changed)
 }
 
-/// Adds the members of a row, and says whether one of them was new.
-pub fn union(to: &mut Vec<u64>, from: &[u64]) -> Result<bool, NoMemory>
+// Whether a word has bits that aren't in the one at its place.
+fn adds_some(to: &[u64], from: &[u64]) -> bool
+    requires { length from.now ≤ length to.now }
+    ensures { result ≡ false → (i : ℕ) → i < length from.now → slice_index to.now i ≡ bit_or (slice_index to.now i) (slice_index from.now i) }
+{
+    let mut some = false;
+    for k in 0..from.len() {
+        let word = to[k];
+        some = some || word | from[k] != word;
+    }
+    some
+}
+
+/// Adds the members of a row, and says whether one of them was new. The places of words that changed are added to a list.
+pub fn union(to: &mut Vec<u64>, from: &[u64], touched: &mut Vec<usize>) -> Result<bool, NoMemory>
     ensures adds { OnOk result (AddsTo to.old.items to.new.items (IsMember from.now)) }
     ensures len { OnOk result (length to.new.items ≡ max (length to.old.items) (length from.now)) }
     ensures quiet { IfOk result (λ changed. changed ≡ false → (k : ℕ) → IsMember to.new.items k → IsMember to.old.items k) }
 {
     widen(to, from.len())?;
-    let changed = or_words(to, from);
-    Ok(changed)
+    if adds_some(to.as_slice(), from) {
+        let changed = or_words(to, from, touched)?;
+        Ok(changed)
+    } else {
+        Ok(false)
+    }
 }
 
 /// Adds a number, and says whether it was new.
@@ -68,6 +94,20 @@ pub fn add(row: &mut Vec<u64>, number: u32) -> Result<bool, NoMemory>
     widen(row, place + 1)?;
     let old = row[place];
     let word = old | (1 << (number % 64));
+    row[place] = word;
+    Ok(word != old)
+}
+
+/// Adds the bits of a word at a place, and says whether one of them was new.
+pub fn add_word(row: &mut Vec<u64>, place: usize, bits: u64) -> Result<bool, NoMemory>
+    requires { place < 2 ^ 63 }
+    ensures keeps { OnOk result ((k : ℕ) → IsMember row.old.items k → IsMember row.new.items k) }
+    ensures only { OnOk result ((k : ℕ) → IsMember row.new.items k → IsMember row.old.items k ⊎ ((k / 64 ≡ place) × (bit_at bits (k % 64) ≡ 1))) }
+    ensures len { OnOk result (length row.new.items ≡ max (length row.old.items) (place + 1)) }
+{
+    widen(row, place + 1)?;
+    let old = row[place];
+    let word = old | bits;
     row[place] = word;
     Ok(word != old)
 }

@@ -35,9 +35,10 @@ fn solve_small(alloc: Global, system: &System) -> Result<Solution, NoMemory>
 /// adds a fact.
 ///
 /// The only error is want of memory. A system with 2^32 sites, calls or methods has it too, since their numbers have 32 bits.
-/// Sets are rows of bits, so that a flow of one set into another takes a step for each 64 sites up to the last one. A round
-/// tries each rule where something that it reads changed lately, in the order of a search in depth along copies and loads: what goes
-/// round a cycle of copies comes round in one round, and is seen unchanged in the next. One last round tries each rule.
+/// Sets are rows of bits, so that a flow of one set into another takes a step for each 64 sites up to the last one; where the flow isn't
+/// new, it takes one for each word of 64 sites that changed lately. A round tries each rule where something that it reads changed
+/// lately, in the order of a search in depth along copies and loads: what goes round a cycle of copies comes round in one round, and is
+/// seen unchanged in the next. One last round tries each rule.
 pub fn solve(alloc: Global, s: &System) -> Result<Solution, NoMemory>
     ensures { IfOk result (λ solution. IsSolutionOf s.now solution) }
 {

@@ -189,6 +189,16 @@ pub fn is_recent(found: &Found, place: Place) -> bool
     }
 }
 
+/// Whether a place got its first number in this round or in the one before.
+pub fn is_first(found: &Found, place: Place) -> bool
+    requires { IsShape found.now }
+{
+    match lookup(&found.places, place) {
+        None => false,
+        Some(row) => found.marks.is_first(row),
+    }
+}
+
 /// Whether a place got a number in this round or in the one before, if it has it.
 pub fn is_new(found: &Found, place: Place, number: u32) -> bool
     requires { IsShape found.now }
